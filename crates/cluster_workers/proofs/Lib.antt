@@ -1,3 +1,4 @@
 mod Peers
 mod SeatsLeft
 pub mod Crossing
+mod Growing

@@ -79,12 +79,10 @@ impl Sender {
         self.to
     }
 
-    /// Puts a frame in without copying its bytes, and wakes the taker. Returns false if the frame is lost: the inbox
-    /// was full, which is counted, or memory ran out.
-    pub(crate) fn send<R: Wait>(&mut self, rt: &R, frame: &Bytes) -> bool {
-        let Ok(bytes) = frame.clone() else {
-            return false;
-        };
+    /// Puts a frame in without copying its bytes, and wakes the taker. Returns false if the frame is lost since the inbox was full, which is
+    /// counted. The only error is allocation failure, and then it is lost, too.
+    pub(crate) fn send<R: Wait>(&mut self, rt: &R, frame: &Bytes) -> Result<bool, AllocError> {
+        let bytes = frame.clone()?;
         let item = Item::new(self.pass.number(), bytes);
         let is_put = self.inbox.put(rt, &mut self.pass, item).is_ok();
         if is_put {
@@ -92,7 +90,7 @@ impl Sender {
         } else {
             self.losses.add(self.to);
         }
-        is_put
+        Ok(is_put)
     }
 }
 

@@ -3,18 +3,32 @@ use crate::inboxes::Sender;
 use ledger_model::{ReplicaId, Sent, goes_to};
 use std::sync::Wait;
 
-/// Puts a frame of the replica `from` into the inboxes of its addressees, and returns how many of them got it.
+/// What became of a frame that was sent.
+#[derive(Clone, Copy, Drop)]
+pub(crate) struct SendOutcome {
+    /// The number of inboxes that got it.
+    pub(crate) put: usize,
+    /// Whether memory ran out, so that an addressee didn't get it.
+    pub(crate) is_short: bool,
+}
+
+/// Puts a frame of the replica `from` into the inboxes of its addressees.
 pub(crate) fn send<R: Wait>(
     rt: &R,
     senders: &mut Vec<Sender>,
     from: ReplicaId,
     sent: &Sent,
-) -> usize {
-    let mut count = 0usize;
+) -> SendOutcome {
+    let mut put = 0usize;
+    let mut is_short = false;
     for sender in senders.iter_mut() {
-        if goes_to(sent.addressee, from, sender.to()) && sender.send(rt, &sent.frame) {
-            count = count.saturating_add(1);
+        if goes_to(sent.addressee, from, sender.to()) {
+            match sender.send(rt, &sent.frame) {
+                Ok(true) => put = put.saturating_add(1),
+                Ok(false) => {}
+                Err(_) => is_short = true,
+            }
         }
     }
-    count
+    SendOutcome { put, is_short }
 }

@@ -94,6 +94,7 @@ impl TurnTaker {
         ensures applied { state.old.id ≡ self.old.seat.replica → OnOk result (AppliesEach state.old events.items state.new) }
         ensures refused { IfErr result (λ why. (state.old.id ≡ self.old.seat.replica) × AppliesSome state.old events.items why state.new) }
         ensures other { (state.old.id ≡ self.old.seat.replica → ⊥) → state.new ≡ state.old }
+        ensures grows { length state.old.entries ≤ length state.new.entries }
         ensures sound { IsSound state.new }
         ensures reader { self.new.reader ≡ self.old.reader }
         // The replica's committed height is published.

@@ -1,5 +1,5 @@
 //! The worker of one replica: what it does in one pass of its loop, and the loop.
-ghost use Rattle.std.specs.Prelude.{◌≡◌, ◌≤◌, map, vec_len, IfSome};
+ghost use Rattle.std.specs.Prelude.{◌≡◌, ◌≤◌, map, vec_len, IfOk, IfSome};
 ghost use Rattle.verify_cache.specs.Checks.{is_part_signed};
 
 use crate::gate::TurnGate;
@@ -14,8 +14,8 @@ use key_ring::KeyRing;
 use ledger_model::{ApplyFault, Event, ReplicaId, Sent, Version};
 use locked_replica::{LockedReplica, State};
 use replica_turns::{
-    OwnEvents, WaitingFrames, arrived_frames, deliveries_of, keep_checked, sent_at,
-    unknown_parts, unknown_reports,
+    OwnEvents, WaitingFrames, arrived_frames, deliveries_of, keep_checked, sent_at, unknown_parts,
+    unknown_reports,
 };
 use signed_frames::{Frame, SignedPart};
 use std::alloc::{AllocError, Global};
@@ -100,20 +100,23 @@ struct Pass {
     has_run: bool,
 }
 
-/// Takes at most `most` frames from an inbox.
-fn take_frames<R: Wait>(rt: &R, alloc: Global, receiver: &mut Receiver, most: usize) -> Vec<Bytes>
-    ensures { vec_len result ≤ most }
+/// Takes at most `most` frames from an inbox. The only error is allocation failure, before the first is taken: they wait in the inbox.
+fn take_frames<R: Wait>(
+    rt: &R,
+    alloc: Global,
+    receiver: &mut Receiver,
+    most: usize,
+) -> Result<Vec<Bytes>, AllocError>
+    ensures { IfOk result (λ frames. vec_len frames ≤ most) }
 {
-    let mut frames = Vec::new(alloc);
+    let mut frames = Vec::with_capacity(alloc, most)?;
     for _taken in 0..most {
         let Some(frame) = receiver.take(rt) else {
             break;
         };
-        if frames.push(frame).is_err() {
-            break;
-        }
+        frames.push(frame)?;
     }
-    frames
+    Ok(frames)
 }
 
 /// Whether each of these parts is signed, in order, checked without the lock of any replica. `None` if there are no parts, or if memory
@@ -248,7 +251,10 @@ impl<A: Application> Worker<A> {
 
     /// Takes as many frames from the inbox as there is room for, while the round `clock` is open. Returns how many it took.
     fn take_in<R: Wait>(&mut self, rt: &R, clock: u32) -> usize {
-        let frames = take_frames(rt, self.alloc, &mut self.receiver, self.frames.room());
+        let room = self.frames.room();
+        let Ok(frames) = take_frames(rt, self.alloc, &mut self.receiver, room) else {
+            return 0;
+        };
         let taken = frames.len();
         let done = self.frames.take_in(self.version, self.alloc, clock, frames);
         if done.is_err() {
@@ -359,7 +365,9 @@ impl<A: Application> Worker<A> {
         let outcome = self.turn(rt, gate, events);
         self.note_fault(outcome.fault);
         if outcome.taken > 0 {
-            let _ = self.frames.open_round();
+            if self.frames.open_round().is_err() {
+                self.has_lost = true;
+            }
             self.send_all(rt, outcome.first);
         }
     }
@@ -372,8 +380,9 @@ impl<A: Application> Worker<A> {
             return;
         };
         for sent in frames {
-            let count = send(rt, &mut self.senders, from, &sent);
-            self.sent = self.sent.saturating_add(count);
+            let outcome = send(rt, &mut self.senders, from, &sent);
+            self.sent = self.sent.saturating_add(outcome.put);
+            self.has_lost = self.has_lost || outcome.is_short;
         }
     }
 

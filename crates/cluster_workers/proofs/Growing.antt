@@ -1,0 +1,13 @@
+-- A turn never makes a history shorter.
+use Rattle.std.proofs.Common.{ℕ, ◌≤◌, List, length, arith}
+use Rattle.std.specs.Prelude.{Result, Ok, Err, OnOk, IfErr}
+use Rattle.ledger_model.specs.declared.event.Event.{Event}
+use Rattle.ledger_model.specs.declared.fault.ApplyFault.{ApplyFault}
+use Rattle.locked_replica.specs.Applying.{AppliesEach, AppliesSome}
+use Rattle.locked_replica.specs.States.{StateView}
+use Rattle.locked_replica.proofs.Applying.{longer_by, longer_until}
+
+pub grown : (r : Result ℕ ApplyFault) (es : List Event) (old new : StateView) → OnOk r (AppliesEach old es new)
+    → IfErr r (λ why. AppliesSome old es why new) → length old.entries ≤ length new.entries
+grown (Ok index) es old new each some = let longer = longer_by es old new each in omega (arith, longer)
+grown (Err why) es old new each some = let longer = longer_until es old new why some in omega (arith, longer)
