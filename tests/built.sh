@@ -6,7 +6,7 @@ cd "$(dirname "$0")/.." || exit 1
 export ABFT=$PWD/crates/abft/out/abft LMS_SPEED=$PWD/crates/lms_speed/out/lms_speed
 room=$(mktemp -d)
 trap 'rm -rf "$room"' EXIT
-scripts=(end_to_end scenarios audits pictures hostile http readme benchmark documents dependencies mutants)
+scripts=(end_to_end scenarios audits pictures hostile http readme benchmark documents dependencies names mutants)
 for script in "${scripts[@]}"; do
     "tests/$script.sh" >"$room/$script" 2>&1 && : >"$room/$script.well" &
 done
