@@ -1,7 +1,10 @@
 //! The bytes of replies.
 
 use crate::expected::*;
-use http_messages::{Answer, Commitment, FrameCounts, Parameter, Receipt, ReplicaMetrics, RequestFault, ServiceFault, Submission, out_of_memory_reply, put_reply};
+use http_messages::{
+    Answer, Commitment, FrameCounts, Parameter, Receipt, ReplicaMetrics, RequestFault,
+    ServiceFault, Submission, out_of_memory_reply, put_reply,
+};
 use ledger_model::{AppKind, Height, Ignored, ReplicaId, SubmitRefusal};
 use std::alloc::Global;
 use test_support::batch;

@@ -1,9 +1,9 @@
 //! Four replicas whose answers a test sets.
 use bytes::Bytes;
 use client_sessions::Targets;
-use ledger_model::{AppKind, ApplyFault, Batch, Height, QueryAnswer, ReplicaId, SubmitRefusal};
 use http_messages::{FrameCounts, ReplicaMetrics};
 use http_sessions::{AppInfo, Delivery, HttpTargets, PoolSize, Progress};
+use ledger_model::{AppKind, ApplyFault, Batch, Height, QueryAnswer, ReplicaId, SubmitRefusal};
 use std::alloc::Global;
 use test_support::{BuildFault, batch};
 

@@ -4,8 +4,8 @@ use crate::expected::*;
 use crate::session_streams::{SlowReader, SlowWriter};
 use crate::session_targets::Fake;
 use client_sessions::CountedStream;
-use ledger_model::{ApplyFault, Height, ReplicaId, SubmitRefusal};
 use http_sessions::{ConnectionFault, Delivery, RequestEnd, serve_request};
+use ledger_model::{ApplyFault, Height, ReplicaId, SubmitRefusal};
 use std::alloc::{AllocError, Global};
 
 /// How a connection ended.

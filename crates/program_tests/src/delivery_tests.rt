@@ -1,10 +1,10 @@
 //! `abft deliver` over streams.
 use crate::streams::{Case, Sink, Source};
+use byte_streams::ProgramFault;
 use cluster_setup::{ClusterSeed, DeliverSettings, SignSettings, What};
 use ledger_model::{AppKind, Config, Height, Phase, ReplicaId, Tx};
 use lm_ots::{Params, TreeHeight, Width};
 use program::{StreamEnd, deliver, signed_frame};
-use byte_streams::ProgramFault;
 use std::alloc::{AllocError, Global};
 use std::random::RandomSource;
 use std::test::Fail;

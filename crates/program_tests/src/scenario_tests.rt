@@ -1,7 +1,7 @@
 //! `abft simulate` over streams.
 use crate::streams::{Case, Sink, Source};
-use program::simulate;
 use cluster_setup::SimulateSettings;
+use program::simulate;
 use std::alloc::Global;
 use std::random::RandomSource;
 use std::test::Fail;

@@ -1,5 +1,7 @@
 //! Prints the settings that words of a command line give, as a line, for the tests.
-use cluster_setup::{AuditSettings, ClusterSeed, ClusterSettings, Receipt, ServeSettings, Settings};
+use cluster_setup::{
+    AuditSettings, ClusterSeed, ClusterSettings, Receipt, ServeSettings, Settings,
+};
 use command_line::settings;
 use std::alloc::{AllocError, Global};
 

@@ -1,8 +1,8 @@
 //! The settings that the words of a command line give. `tests/end_to_end.sh` tests those of `abft sign`, and the words
 //! that are refused.
+use cluster_setup::Settings;
 use command_line::settings;
 use ledger_model::{AppKind, Version};
-use cluster_setup::Settings;
 use std::alloc::Global;
 
 /// The settings that the words give, if they give any. It has no `ensures`, which keeps clap out of the tests' proofs.

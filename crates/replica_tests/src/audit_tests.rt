@@ -1,9 +1,9 @@
 //! Audits of the histories of the worked runs: as they are, cut, changed, too few, in any order.
 use crate::fault::Fault;
 use crate::handing::{Part, handed_in, part_of};
-use crate::playing::{history_of, new_apps, played};
+use crate::playing::{history_of, played};
 use crate::scripts::{PLAIN, PLAIN_IN_VERSION_2, PLAIN_WITH_B, Script};
-use app_kinds::AnyKind;
+use app_kinds::{AnyKind, new_apps};
 use history_audit::{AuditFault, audit, receipt_holds};
 use ledger_model::{History, Ledger, ReplicaId, Tx, Version};
 use locked_replica::Snapshot;

@@ -5,9 +5,9 @@ ghost use Rattle.ledger_model.specs.Applications.{run};
 use crate::fault::Fault;
 use abci::Application;
 use app_kinds::AnyKind;
+use history_follower::Follower;
 use ledger_model::{Entry, Event, Reply};
 use locked_replica::Snapshot;
-use history_follower::Follower;
 use std::alloc::{AllocError, Global};
 use std::hash::RandomState;
 

@@ -21,6 +21,8 @@ mod frame_tests;
 #[cfg(test)]
 mod frames;
 #[cfg(test)]
+mod full_history_tests;
+#[cfg(test)]
 mod handing;
 #[cfg(test)]
 mod history_tests;

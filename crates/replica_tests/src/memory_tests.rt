@@ -9,9 +9,9 @@ use crate::playing::{correct_of, history_of, new_simulation, play_all, scenario_
 use crate::scripts::REFUSED_BLOCK;
 use abci::Application;
 use app_kinds::{AnyKind, Refusing};
+use history_follower::Follower;
 use ledger_model::{AppKind, Entry};
 use locked_replica::Snapshot;
-use history_follower::Follower;
 use scenario_texts::{Command, Setup};
 use simulation::Simulation;
 use std::alloc::{AllocError, Global};

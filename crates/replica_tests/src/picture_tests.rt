@@ -1,8 +1,9 @@
 //! Pictures of the worked runs: what is decided and given up, and how far a history is shown that breaks.
 use crate::fault::Fault;
 use crate::handing::{Part, handed_in};
-use crate::playing::{history_of, new_apps, played};
+use crate::playing::{history_of, played};
 use crate::scripts::{PLAIN, RETIRED, Script};
+use app_kinds::new_apps;
 use ledger_model::ReplicaId;
 use run_picture::{Fact, Mark, Part as Shown, Picture, picture_of};
 use std::alloc::Global;
@@ -91,15 +92,7 @@ fn picture_in(alloc: Global, random: RandomState, row: &Row) -> Result<Picture, 
     let config = &snapshot.config;
     let histories = handed_in(alloc, &simulation, row.parts)?;
     let apps = new_apps(alloc, config.kind, usize::from(config.replicas))?;
-    Ok(picture_of(
-        alloc,
-        config,
-        &snapshot.ring,
-        &histories,
-        apps,
-        ALL,
-        random,
-    )?)
+    Ok(picture_of(alloc, config, &snapshot.ring, &histories, apps, ALL, random)?)
 }
 
 /// Whether the mark is that of a decision of height 1 by this replica.
@@ -122,14 +115,10 @@ fn decides(picture: &Picture, deciders: &[u8]) -> bool {
 /// Whether nothing is shown of the replica's entries from this one on.
 fn is_shown_up_to(picture: &Picture, replica: u8, entry: usize) -> bool {
     let replica = ReplicaId::new(replica);
-    let sent = picture
-        .sent
-        .iter()
-        .all(|frame| frame.at.replica != replica || frame.at.entry < entry);
-    let arrived = picture
-        .arrivals
-        .iter()
-        .all(|arrival| arrival.delivery.at.replica != replica || arrival.delivery.at.entry < entry);
+    let sent = picture.sent.iter().all(|frame| frame.at.replica != replica
+        || frame.at.entry < entry);
+    let arrived = picture.arrivals.iter().all(|arrival| arrival.delivery.at.replica != replica
+        || arrival.delivery.at.entry < entry);
     sent && arrived
 }
 
@@ -149,9 +138,11 @@ fn breaks(picture: &Picture, first_break: Option<(u8, usize)>) -> bool {
 /// Whether the picture of a row is what the row says.
 fn is_row_right(alloc: Global, random: RandomState, row: &Row) -> Result<bool, Fault> {
     let picture = picture_in(alloc, random, row)?;
-    Ok(breaks(&picture, row.first_break)
-        && decides(&picture, row.deciders)
-        && picture.retired.len() == row.retired)
+    Ok(
+        breaks(&picture, row.first_break)
+            && decides(&picture, row.deciders)
+            && picture.retired.len() == row.retired,
+    )
 }
 
 /// The name of the first row whose picture is another, if there is one.

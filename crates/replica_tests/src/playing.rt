@@ -1,37 +1,20 @@
 //! Plays scenarios on a cluster, and returns the histories at their end.
 ghost use Rattle.std.specs.Prelude.{◌≡◌, [], vec_len, length, All, IfOk};
 ghost use Rattle.ledger_model.specs.Applications.{run};
-ghost use Rattle.app_kinds.specs.Chosen.{machine_of};
 ghost use Rattle.adversary_net.specs.Openings.{correct_without};
 
 use crate::fault::Fault;
 use crate::scripts::{Script, text_of};
 use abci::Application;
 use adversary_net::count_correct;
-use app_kinds::AnyKind;
+use app_kinds::{AnyKind, new_apps};
 use cluster_setup::ClusterSeed;
-use ledger_model::{AppKind, ReplicaId};
+use ledger_model::ReplicaId;
 use locked_replica::Snapshot;
 use scenario_texts::{Command, Scenario, Setup, read};
 use simulation::Simulation;
 use std::alloc::{AllocError, Global};
 use std::hash::RandomState;
-
-/// `count` applications of a kind, each in its opening state.
-pub(crate) fn new_apps(
-    alloc: Global,
-    kind: AppKind,
-    count: usize,
-) -> Result<Vec<AnyKind>, AllocError>
-    ensures count { IfOk result (λ apps. vec_len apps ≡ count) }
-    ensures opening { IfOk result (λ apps. All (λ app. machine_of app ≡ run kind []) apps.items) }
-{
-    let mut apps = Vec::with_capacity(alloc, count)?;
-    for _ in 0..count {
-        apps.push(AnyKind::new(alloc, kind))?;
-    }
-    Ok(apps)
-}
 
 /// The random keys for the hashes of `count` replicas.
 pub(crate) fn new_randoms(

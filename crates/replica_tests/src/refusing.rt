@@ -3,9 +3,9 @@ use crate::changing::{Change, changed};
 use crate::fault::Fault;
 use crate::following::{EntryContext, is_taken, new_follower, place_in, takes_all};
 use app_kinds::AnyKind;
+use history_follower::Follower;
 use ledger_model::Reply;
 use locked_replica::Snapshot;
-use history_follower::Follower;
 use std::alloc::{AllocError, Global};
 use std::hash::RandomState;
 

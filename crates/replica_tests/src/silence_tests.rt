@@ -5,9 +5,9 @@ use crate::following::{EntryContext, is_taken, new_follower, place_in, takes_all
 use crate::playing::history_in;
 use crate::scripts::{FOUR_HEIGHTS, NO_LEAF_LEFT, NO_LEAVES_FOR_FOUR, PLAIN, Script};
 use app_kinds::AnyKind;
+use history_follower::Follower;
 use ledger_model::{Entry, Reply, RoundEnded};
 use locked_replica::Snapshot;
-use history_follower::Follower;
 use std::alloc::{AllocError, Global};
 use std::hash::RandomState;
 use std::test::Fail;

@@ -1,8 +1,8 @@
 //! A world takes a list of steps in one call, and the same steps one by one.
 use crate::fault::Fault;
-use crate::playing::{new_apps, new_randoms};
+use crate::playing::new_randoms;
 use adversary_net::{World, count_correct};
-use app_kinds::AnyKind;
+use app_kinds::{AnyKind, new_apps};
 use bytes::Bytes;
 use cluster_setup::ClusterSeed;
 use history_bytes::history_bytes;
@@ -14,7 +14,7 @@ use std::slice;
 use std::test::Fail;
 
 /// Four replicas, of which one lies.
-fn new_world(alloc: Global, random: RandomState) -> Result<World<AnyKind>, Fault> {
+pub(crate) fn new_world(alloc: Global, random: RandomState) -> Result<World<AnyKind>, Fault> {
     let cluster = ClusterSeed {
         config: Config::new(4, 1, AppKind::KvStore)?,
         params: Params {
@@ -167,7 +167,7 @@ fn order_numbers(alloc: Global, world: &World<AnyKind>) -> Result<Vec<u8>, Alloc
 }
 
 /// The histories as bytes, one after the other.
-fn histories(alloc: Global, world: &World<AnyKind>) -> Result<Vec<Vec<u8>>, AllocError> {
+pub(crate) fn histories(alloc: Global, world: &World<AnyKind>) -> Result<Vec<Vec<u8>>, AllocError> {
     let mut spelled = Vec::new(alloc);
     for history in world.histories()? {
         spelled.push(history_bytes(alloc, &history)?)?;

@@ -1,17 +1,15 @@
 //! Audits of histories that were taken while a cluster ran, and after its rounds.
-ghost use Rattle.std.specs.Prelude.{◌≡◌, [], All, vec_len, IfOk};
-ghost use Rattle.ledger_model.specs.Applications.{run};
-ghost use Rattle.app_kinds.specs.Chosen.{machine_of};
+ghost use Rattle.std.specs.Prelude.{◌≡◌};
 
-use crate::crate::{first_behind, reader_of};
+use crate::cluster_tests::{first_behind, reader_of};
 use crate::history_gate::{HistoryGate, SETS, histories};
 use crate::quiet_clock::QuietClock;
 use crate::replicas::{four, replicas};
-use app_kinds::AnyKind;
+use app_kinds::{AnyKind, new_apps};
 use cluster_workers::{NoGate, RunningCluster, Stop, Worker, run_all};
 use history_audit::{AuditFault, audit};
 use key_ring::KeyRing;
-use ledger_model::{AppKind, Config, History, ReplicaId};
+use ledger_model::{Config, History, ReplicaId};
 use std::alloc::{AllocError, Global};
 use std::hash::RandomState;
 use std::sync::Wait;
@@ -40,18 +38,6 @@ struct Auditor {
     config: Config,
     ring: KeyRing,
     random: RandomState,
-}
-
-/// `count` applications of a kind, each in its opening state.
-fn new_apps(alloc: Global, kind: AppKind, count: usize) -> Result<Vec<AnyKind>, AllocError>
-    ensures count { IfOk result (λ apps. vec_len apps ≡ count) }
-    ensures opening { IfOk result (λ apps. All (λ app. machine_of app ≡ run kind []) apps.items) }
-{
-    let mut apps = Vec::with_capacity(alloc, count)?;
-    for _ in 0..count {
-        apps.push(AnyKind::new(alloc, kind))?;
-    }
-    Ok(apps)
 }
 
 impl Auditor {

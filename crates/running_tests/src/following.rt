@@ -1,8 +1,8 @@
 //! Follows the history of a replica that ran in a thread.
 use app_kinds::AnyKind;
+use history_follower::Follower;
 use ledger_model::Entry;
 use locked_replica::{LockedReplica, Snapshot};
-use history_follower::Follower;
 use std::alloc::{AllocError, Global};
 use std::hash::RandomState;
 use std::random::RandomSource;

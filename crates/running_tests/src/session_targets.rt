@@ -102,6 +102,16 @@ fn batch(alloc: Global, bytes: &[u8]) -> Result<Option<Batch>, AllocError> {
     Ok(Batch::new(vec![in alloc; tx]?).ok())
 }
 
+/// The value under a key: `1` under `a`, 65,529 bytes under `l`, the longest of a reply, and one more under `m`.
+fn value_of(alloc: Global, key: &[u8]) -> Result<Option<Bytes>, AllocError> {
+    match key {
+        b"a" => Ok(Some(Bytes::from_static(b"1"))),
+        b"l" => Ok(Some(Bytes::from_vec(vec![in alloc; b'v'; 65_529]?)?)),
+        b"m" => Ok(Some(Bytes::from_vec(vec![in alloc; b'v'; 65_530]?)?)),
+        _ => Ok(None),
+    }
+}
+
 impl Targets for Fake {
     ghost replicas = { λ _. 4 };
 
@@ -121,13 +131,12 @@ impl Targets for Fake {
 
     fn query(&mut self, replica: ReplicaId, key: &[u8]) -> Result<QueryAnswer, ApplyFault> {
         self.count_one()?;
+        let Ok(value) = value_of(self.alloc, key) else {
+            return Err(ApplyFault::NoMemory);
+        };
         Ok(QueryAnswer {
             height: Height::new(self.height_of(replica)),
-            value: if key == b"a".as_slice() {
-                Some(Bytes::from_static(b"1"))
-            } else {
-                None
-            },
+            value,
         })
     }
 

@@ -4,7 +4,9 @@ ghost use Rattle.client_sessions.specs.Faults.{read_failures_in, write_failures_
 
 use crate::session_streams::{FailingReader, FailingWriter};
 use crate::session_targets::{Fake, Submitted};
-use client_sessions::{CountedStream, Session, SessionEnd, SessionFault, SessionReader, SessionWriter, serve};
+use client_sessions::{
+    CountedStream, Session, SessionEnd, SessionFault, SessionReader, SessionWriter, serve,
+};
 use ledger_model::{ApplyFault, SubmitRefusal};
 use std::alloc::Global;
 use std::io::{Read, Write};
@@ -251,6 +253,31 @@ fn a_key_has_at_most_64_bytes(rt: HostRuntime) {
     request[1] = 70;
     assert!(rt; gets(alloc, &mut targets, &request, b"\x00\x01\x01"));
     assert_eq!(rt; targets.asked(), 1);
+}
+
+/// Whether the reply to a query is the longest one: status 0, height 3, and a value of 65,529 bytes.
+fn is_longest(reply: &[u8]) -> bool {
+    reply.len() == 2 + 65_535
+        && reply.starts_with(b"\xff\xff\x00\x00\x00\x00\x03\x01v")
+        && reply.ends_with(b"v")
+}
+
+#[test]
+fn a_value_has_at_most_65529_bytes(rt: HostRuntime) {
+    let alloc = rt.alloc();
+    let mut targets = Fake::new(alloc, [3, 3, 1, 3]);
+    let mut input = b"\x00\x06\x02\x00\x00\x00\x00l".as_slice();
+    let mut output = Vec::new(alloc);
+    let end = ends(alloc, &mut input, &mut output, &mut targets);
+    assert!(rt; end == End::Clean && is_longest(&output));
+    assert!(rt;
+        gets(
+            alloc,
+            &mut targets,
+            b"\x00\x06\x02\x00\x00\x00\x00m",
+            b"\x00\x01\x06"
+        )
+    );
 }
 
 #[test]
