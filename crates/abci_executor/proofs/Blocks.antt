@@ -1,5 +1,5 @@
 -- The calls of a block, one after another.
-use Rattle.std.proofs.Common.{◌≡◌, ℕ, ◌+◌, ◌<◌, List, [], ◌∷◌, ◌++◌, Some, refl, sym, ap, subst, ◌∙◌, length, get_or, take}
+use Rattle.std.proofs.Common.{◌≡◌, ℕ, ◌+◌, ◌<◌, List, [], ◌∷◌, ◌++◌, Some, refl, sym, ap, subst, append_assoc, ◌∙◌, length, get_or, take}
 use Rattle.std.specs.Prelude.{Option, None, IsSome, Result, Ok, Err, IfOk, OnErr}
 use Rattle.std.proofs.lemmas.List.{append-nil, take_more, length-append}
 use Rattle.std.proofs.lemmas.Grind.{flat_map-append}
@@ -43,11 +43,7 @@ delivers_more old mid new batch tx answered code before delivered =
     let one : code ≡ code_after old.kind (accepted old.kind (accepted old.kind [] txs) batch) tx =
     last.0 ∙ ap (λ done. code_after old.kind done tx) behind in
     let codes_are : answered ++ code ∷ [] ≡ codes old.kind (accepted old.kind [] txs) (batch ++ tx ∷ []) = cc in
-    (codes_are, rw (← append_assoc_of txs batch tx) (last.1))
-  where
-    append_assoc_of : (xs ys : List (List ℕ)) (y : List ℕ) → (xs ++ ys) ++ y ∷ [] ≡ xs ++ (ys ++ y ∷ [])
-    append_assoc_of [] ys y = refl
-    append_assoc_of (x ∷ xs) ys y = ap (λ zs. x ∷ zs) (append_assoc_of xs ys y)
+    (codes_are, rw (← append_assoc txs batch (tx ∷ [])) (last.1))
 
 -- one transaction more of a slice
 pub delivers_next : (old mid new : Machine) (all : List (List ℕ)) (i : ℕ) (tx : List ℕ) (answered now : List ℕ) (code : ℕ) → i < length all

@@ -45,13 +45,6 @@ impl Session {
         self.replica
     }
 
-    /// The greatest height that the client got in a reply.
-    pub fn greatest(&self) -> Height
-        ensures { result ≡ self.now.greatest }
-    {
-        self.greatest
-    }
-
     /// Submits a transaction to the replica. Its answer is a receipt if the pool takes the transaction.
     fn submit<T: Targets>(&self, targets: &mut T, tx: &[u8]) -> Answer
         requires { self.now.replica < T.replicas targets.old }

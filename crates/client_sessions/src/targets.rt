@@ -28,7 +28,8 @@ pub trait Targets {
         ensures asked { asks self.old (Submits replica tx.now result) self.new }
         ensures count { replicas self.new ≡ replicas self.old };
 
-    /// Queries a replica's application for a key of at most 64 bytes, as of its last block.
+    /// Queries a replica's application for a key, as of its last block. No key has more than 64 bytes: more bytes have no value, and add no
+    /// event.
     fn query(&mut self, replica: ReplicaId, key: &[u8]) -> Result<QueryAnswer, ApplyFault>
         requires { replica < replicas self.old }
         ensures asked { asks self.old (Queries replica key.now result) self.new }

@@ -1,8 +1,8 @@
 //! The status of a running cluster's replicas, and the notices that the operator hasn't received yet.
 use crate::notice::Notice;
+use byte_streams::ProgramFault;
 use ledger_model::ReplicaId;
 use log::LevelFilter;
-use byte_streams::ProgramFault;
 use replica_turns::ReplicaStatus;
 use std::alloc::{AllocError, Global};
 use std::mem;

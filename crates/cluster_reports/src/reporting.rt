@@ -3,10 +3,10 @@ ghost use Rattle.std.specs.Prelude.{◌≡◌, MatchResult};
 
 use crate::cluster_status::ClusterStatus;
 use crate::notice::Notice;
+use byte_streams::{ProgramFault, STOPPED};
 use cluster_workers::{Bell, TurnGate};
 use ledger_model::ReplicaId;
 use log::{Level, LevelFilter};
-use byte_streams::{ProgramFault, STOPPED};
 use replica_turns::ReplicaStatus;
 use std::alloc::{AllocError, Global};
 use std::sync::{Mutex, Wait};

@@ -5,3 +5,4 @@ mod Taken
 mod RunFaultLemmas
 pub mod ReportingLemmas
 pub mod Crossing
+mod Outcomes

@@ -117,7 +117,7 @@ impl Door<'_> {
     }
 
     /// Asks the server to end.
-    pub(crate) fn ask(&self) {
+    pub(crate) fn request_end(&self) {
         self.over.ask();
     }
 

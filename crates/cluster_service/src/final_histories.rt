@@ -4,11 +4,11 @@ ghost use Rattle.cluster_service.specs.Reporting.{AreTaken, IsTaken};
 ghost use Rattle.cluster_service.specs.RunFaults.{IsRunFault};
 
 use abci::Application;
+use byte_streams::ProgramFault;
 use cluster_workers::RunningCluster;
 use key_ring::KeyRing;
 use ledger_model::{History, ReplicaId};
 use locked_replica::State;
-use byte_streams::ProgramFault;
 use std::alloc::Global;
 use std::sync::Wait;
 

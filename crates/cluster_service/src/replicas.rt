@@ -5,12 +5,12 @@ ghost use Rattle.byte_streams.specs.Faults.{IsMemoryOrRandom};
 ghost use Rattle.cluster_service.specs.Replicas.{all_begun, begun, submitted};
 
 use app_kinds::AnyKind;
+use byte_streams::{ProgramFault, new_random_key};
 use bytes::Bytes;
 use cluster_setup::{ClusterKeys, ClusterSeed, all_keys_in_parallel};
 use key_ring::{KeyRing, Signer};
 use ledger_model::{ApplyFault, Event, ReplicaId, Tx};
 use locked_replica::State;
-use byte_streams::{ProgramFault, new_random_key};
 use replica_turns::new_replica;
 use std::alloc::Global;
 use std::hash::RandomState;

@@ -8,9 +8,9 @@ ghost use Rattle.cluster_service.specs.HistoriesFiles.{file_bytes, file_path};
 ghost use Rattle.cluster_service.specs.RunFaults.{IsFileFault, IsSaveFault};
 
 use byte_streams::{ProgramFault, write_whole};
+use cluster_setup::ClusterSettings;
 use history_bytes::history_bytes;
 use ledger_model::History;
-use cluster_setup::ClusterSettings;
 use std::alloc::Global;
 use std::io::{self, Write};
 use std::marker::Model;

@@ -18,11 +18,11 @@ use crate::replicas::{NewReplicas, new_replicas};
 use crate::running::{PreparedRun, end_of, new_gate};
 use crate::servers::{EndedServices, Server, ServerEnd, Servers, http_server};
 use app_kinds::AnyKind;
+use byte_streams::ProgramFault;
 use cluster_reports::{Notice, ReportingGate, SharedStatus};
+use cluster_setup::ServeSettings;
 use cluster_workers::{EndedRun, RunningCluster, Stop};
 use commit_board::ReaderSeat;
-use byte_streams::ProgramFault;
-use cluster_setup::ServeSettings;
 use std::alloc::Global;
 use std::net::{Net, TcpListener, TcpStream};
 use std::random::RandomSource;
@@ -46,7 +46,7 @@ fn end_if_any<R: Clock + Net<Listener = TcpListener, Stream = TcpStream> + Wait>
     server: Option<ServerEnd<'_>>,
 ) {
     if let Some(server) = server {
-        server.door.ask();
+        server.door.request_end();
         server.wait(rt, true);
     }
 }
@@ -109,7 +109,7 @@ where
                     return Err(ProgramFault::NoThread);
                 }
                 if scope.spawn(move || http.listen(rt, alloc)).is_err() {
-                    door.ask();
+                    door.request_end();
                     return Err(ProgramFault::NoThread);
                 }
             }
@@ -151,6 +151,7 @@ where
     let replicas = settings.cluster.cluster.config.replicas;
     let budgets = new_budgets(alloc, replicas, settings.client_entries)?;
     let others = readers.split_off(settings.sessions as usize)?;
+    // Asked once the rounds are over: HTTP then ends, and so do waits of both servers.
     let over = Stop::new();
     let door = Door::new(alloc, Protocol::Sessions, readers.len(), prepared.stop)?;
     let http_door = Door::new(alloc, Protocol::Http, others.len(), &over)?;

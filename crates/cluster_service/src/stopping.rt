@@ -2,8 +2,8 @@
 ghost use Rattle.std.specs.Prelude.{IfErr};
 ghost use Rattle.cluster_service.specs.RunFaults.{IsRunFault};
 
-use cluster_workers::Stop;
 use byte_streams::{ProgramFault, Resource};
+use cluster_workers::Stop;
 use std::io::{ErrorKind, Read};
 use std::sync::Arc;
 use std::thread;

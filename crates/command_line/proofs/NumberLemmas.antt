@@ -1,8 +1,9 @@
 -- Numbers and transactions in their printed form.
-use Rattle.std.proofs.Common.{◌≡◌, ◌∙◌, ℕ, ◌-◌, ◌<◌, ◌≤◌, false, List, [], refl, arith, ap, codes, sym, subst}
-use Rattle.std.specs.Prelude.{Result, Ok, Err, Some, None, IfOk, IfErr, OnErr, IsErrOf, is_ok, ◌↔◌}
+use Rattle.std.proofs.Common.{◌≡◌, ◌∙◌, ℕ, ◌-◌, ◌<◌, ◌≤◌, Bool, true, false, cond, List, [], refl, arith, ap, codes, sym, subst}
+use Rattle.std.specs.Prelude.{Result, Ok, Err, Some, None, IfOk, IfErr, OnErr, IsErrOf, is_ok, ◌↔◌, ◌==◌, nat_eq}
 use Rattle.std.specs.Result.{result_ok}
 use Rattle.std.specs.Str.Parse.{digits_value}
+use Rattle.std.proofs.lemmas.Bool.{eqb-false}
 use Rattle.std.proofs.lemmas.Option.{same_Some}
 use Rattle.clap.specs.Words.{Row, Text, first_of}
 use Rattle.ledger_model.specs.declared.batch.TxFault.{TxFault}
@@ -18,6 +19,7 @@ use Rattle.lm_ots.specs.declared.params.TreeHeight.{TreeHeight}
 use Rattle.lm_ots.specs.declared.params.TreeHeight.TheVariants.{H5, H10}
 use Rattle.cluster_setup.specs.declared.cluster_seed.ClusterSeed.{ClusterSeed}
 use Rattle.abci.specs.Meaning.{ChecksTo, state_after}
+use Rattle.ledger_model.specs.Numbers.{kind_of_number}
 use Rattle.ledger_model.proofs.Numbers.{one_kind}
 use Rattle.command_line.specs.Options.{IsNumberWithin, IsWritten, SetsCluster}
 use Rattle.plain_text.specs.Transactions.{StandsFor}
@@ -104,3 +106,25 @@ checked_at_opening m kind tx code checked is =
     checked (transactions_of []) (ap (λ (n : Machine). n.committed) is
     ∙ ap (λ k. state_after k (transactions_of [])) (sym (ap (λ (n : Machine). n.kind) is)))
     ∙ ap (λ k. check_reply k [] tx) (ap (λ (n : Machine). n.kind) is)
+
+-- each number from 1 to 3 names an application
+pub some_kind : (n : ℕ) → 1 ≤ n → n ≤ 3 → None ≡ kind_of_number n → ⊥
+unfolding kind_of_number
+some_kind n least most none = by_first (n == 1) refl none
+  where
+    by_third : (t : Bool) → (n == 1) ≡ false → (n == 2) ≡ false → (n == 3) ≡ t → None ≡ cond t (Some Purse) None → ⊥
+    by_third true first second third none = cc
+    by_third false first second third none =
+        let not_1 = eqb-false n 1 first in
+        let not_2 = eqb-false n 2 second in
+        let not_3 = eqb-false n 3 third in
+        omega (arith, least, most, not_1, not_2, not_3)
+
+    by_second : (t : Bool) → (n == 1) ≡ false → (n == 2) ≡ t → None ≡ cond t (Some Counter) (cond (n == 3) (Some Purse) None) → ⊥
+    by_second true first second none = cc
+    by_second false first second none = by_third (n == 3) first second refl none
+
+    by_first : (t : Bool) → (n == 1) ≡ t
+        → None ≡ cond t (Some KvStore) (cond (n == 2) (Some Counter) (cond (n == 3) (Some Purse) None)) → ⊥
+    by_first true first none = cc
+    by_first false first none = by_second (n == 2) first refl none

@@ -11,9 +11,9 @@ ghost use Rattle.cluster_setup.specs.declared.audit_settings.Receipt.{Receipt};
 use crate::options::optional_text;
 use crate::usage_fault::UsageFault;
 use clap::ArgMatches;
+use cluster_setup::Receipt;
 use ledger_model::{ReplicaId, Tx};
 use plain_text::{SpellingFault, number, written};
-use cluster_setup::Receipt;
 use std::alloc::Global;
 
 /// The number before the first colon of a text, and what comes after that colon.

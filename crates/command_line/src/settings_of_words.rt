@@ -22,11 +22,11 @@ use crate::receipts::receipt;
 use crate::refused_words::fault_of;
 use crate::usage_fault::UsageFault;
 use clap::ArgMatches;
-use ledger_model::{Height, Phase, ReplicaId};
 use cluster_setup::{
     AuditSettings, ClusterSettings, DeliverSettings, DrawSettings, ServeSettings, Settings,
     SignSettings, SimulateSettings,
 };
+use ledger_model::{Height, Phase, ReplicaId};
 use std::alloc::Global;
 
 /// The settings of `abft sign`, from its matches.

@@ -13,9 +13,9 @@ use crate::following::follow_all;
 use crate::sending::sent_in;
 use crate::unsent::look_for_unsent;
 use abci::Application;
+use history_follower::shared_verifier;
 use key_ring::KeyRing;
 use ledger_model::{Config, History, Ledger};
-use history_follower::shared_verifier;
 use std::alloc::Global;
 use std::hash::RandomState;
 

@@ -10,9 +10,9 @@ ghost use Rattle.history_audit.specs.Followed.{FollowedTo, FollowsOne, FollowsAl
 
 use crate::fault::AuditFault;
 use abci::Application;
-use ledger_model::{Config, Entry, Height, History, Ledger, ReplicaId, history_of};
-use key_ring::KeyRing;
 use history_follower::Follower;
+use key_ring::KeyRing;
+use ledger_model::{Config, Entry, Height, History, Ledger, ReplicaId, history_of};
 use std::alloc::{AllocError, Global};
 use std::hash::RandomState;
 use verify_cache::Verifier;

@@ -10,7 +10,9 @@ ghost use Rattle.history_audit.specs.Searches.{IsLeast, AnswersSearch, AnswersRe
 use crate::fault::AuditFault;
 use crate::sent_table::SentTable;
 use bytes::Bytes;
-use ledger_model::{Config, Entry, Event, History, ReplicaId, Reply, Version, has_history, history_of};
+use ledger_model::{
+    Config, Entry, Event, History, ReplicaId, Reply, Version, has_history, history_of,
+};
 use signed_frames::{Frame, SignedPart};
 use statements::DecodeFault;
 use std::alloc::{AllocError, Global};

@@ -1,6 +1,6 @@
 //! What is answered to a question.
-use crate::metrics::ReplicaMetrics;
 use crate::RequestFault;
+use crate::metrics::ReplicaMetrics;
 use ledger_model::{AppKind, Batch, Height, ReplicaId, SubmitRefusal};
 
 /// Where a transaction is kept: a replica, and the index of the submit's entry in its history.

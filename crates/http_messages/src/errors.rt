@@ -4,8 +4,8 @@ ghost use Rattle.std.specs.String.{string_bytes};
 ghost use Rattle.http_messages.specs.Faults.{request_fault_text};
 ghost use Rattle.http_messages.specs.Errors.{reason_text, kind_text, error_text, fault_kind, service_status, service_kind, service_text, refusal_status, refusal_kind, submit_refusal_sentence};
 
-use crate::answer::ServiceFault;
 use crate::RequestFault;
+use crate::answer::ServiceFault;
 use ledger_model::SubmitRefusal;
 use std::alloc::{AllocError, Global};
 

@@ -7,7 +7,7 @@ use Rattle.std.proofs.lemmas.Fn.{FoldsTo-push}
 use Rattle.ledger_model.proofs.Lists.{range_more}
 use Rattle.http_messages.specs.declared.metrics.ReplicaMetrics.{ReplicaMetrics}
 use Rattle.http_sessions.specs.Exchanges.{HttpExchange, Inquired, Shows}
-use Rattle.http_sessions.specs.Answering.{metrics_shown}
+use Rattle.http_sessions.specs.Answering.{exchanges_of_metrics}
 
 -- the numbers of one replica more
 pub each_more : (all : List ReplicaMetrics) (m : ReplicaMetrics) (n : ℕ) → map (λ x. x.replica) all ≡ range_with_len 0 n → m.replica ≡ n
@@ -20,17 +20,17 @@ each_more all m n each is =
 
 -- one exchange more
 pub shown_more : {T : Type 0} (makes : T → HttpExchange → T → Type 0) (before now after : T) (all : List ReplicaMetrics)
-    (m : ReplicaMetrics) (r : ℕ) → FoldsTo makes before (metrics_shown all) now → m.replica ≡ r → makes now (Inquired (Shows r (Some m))) after
-    → FoldsTo makes before (metrics_shown (all ++ m ∷ [])) after
+    (m : ReplicaMetrics) (r : ℕ) → FoldsTo makes before (exchanges_of_metrics all) now → m.replica ≡ r → makes now (Inquired (Shows r (Some m))) after
+    → FoldsTo makes before (exchanges_of_metrics (all ++ m ∷ [])) after
 shown_more makes before now after all m r made is asked =
     subst (λ l. FoldsTo makes before l after) (sym (map-append (λ x. Inquired (Shows x.replica (Some x))) all (m ∷ [])))
-    (FoldsTo-push makes before (metrics_shown all) now (Inquired (Shows m.replica (Some m))) after made
+    (FoldsTo-push makes before (exchanges_of_metrics all) now (Inquired (Shows m.replica (Some m))) after made
     (subst (λ k. makes now (Inquired (Shows k (Some m))) after) (sym is) asked))
 
 -- the next replica showed none
 pub stranger_met : {T : Type 0} (makes : T → HttpExchange → T → Type 0) (before now after : T) (all : List ReplicaMetrics) (r : ℕ)
-    → FoldsTo makes before (metrics_shown all) now → length all ≡ r → makes now (Inquired (Shows r None)) after
-    → FoldsTo makes before (metrics_shown all ++ Inquired (Shows (length all) None) ∷ []) after
+    → FoldsTo makes before (exchanges_of_metrics all) now → length all ≡ r → makes now (Inquired (Shows r None)) after
+    → FoldsTo makes before (exchanges_of_metrics all ++ Inquired (Shows (length all) None) ∷ []) after
 stranger_met makes before now after all r made is asked =
-    FoldsTo-push makes before (metrics_shown all) now (Inquired (Shows (length all) None)) after made
+    FoldsTo-push makes before (exchanges_of_metrics all) now (Inquired (Shows (length all) None)) after made
     (subst (λ k. makes now (Inquired (Shows k None)) after) (sym is) asked)

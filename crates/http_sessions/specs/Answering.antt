@@ -159,14 +159,14 @@ AnswersMetrics r (Inquired (Shows q metrics) ∷ []) a = (q ≡ r) × IfSome met
 AnswersMetrics r _ a = ⊥
 
 -- the exchanges by which replicas showed these metrics
-abbrev pub metrics_shown : List ReplicaMetrics → List HttpExchange
-metrics_shown all = map (λ m. Inquired (Shows m.replica (Some m))) all
+abbrev pub exchanges_of_metrics : List ReplicaMetrics → List HttpExchange
+exchanges_of_metrics all = map (λ m. Inquired (Shows m.replica (Some m))) all
 
 -- this number of replicas, from 0 on, showed their metrics, which are the answer
 pub record ShowsAll (count : ℕ) (exchanges : List HttpExchange) (a : AnswerView) : Type 0 where
   pub all : List ReplicaMetrics
   pub each : map (λ m. m.replica) all ≡ range_with_len 0 count
-  pub asked : exchanges ≡ metrics_shown all
+  pub asked : exchanges ≡ exchanges_of_metrics all
   pub answer : a ≡ Metrics all
 
 -- of this number of replicas, those before `stranger` showed their metrics, and `stranger` didn't: no further replica was asked
@@ -175,7 +175,7 @@ pub record MeetsStranger (count : ℕ) (exchanges : List HttpExchange) (a : Answ
   pub below : stranger < count
   pub before : List ReplicaMetrics
   pub each : map (λ m. m.replica) before ≡ range_with_len 0 stranger
-  pub asked : exchanges ≡ metrics_shown before ++ Inquired (Shows stranger None) ∷ []
+  pub asked : exchanges ≡ exchanges_of_metrics before ++ Inquired (Shows stranger None) ∷ []
   pub answer : a ≡ Unanswered service.Stranger
 
 -- the metrics of this number of replicas, if all showed theirs

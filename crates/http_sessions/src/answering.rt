@@ -3,14 +3,16 @@ ghost use Rattle.std.specs.Prelude.{◌≡◌, ◌<◌, ◌≤◌, ◌++◌, ◌
 ghost use Rattle.std.specs.List.{FoldsTo, range_with_len};
 ghost use Rattle.http_messages.specs.Questions.{question_view};
 ghost use Rattle.http_sessions.specs.Exchanges.{Makes, Inquired, Shows};
-ghost use Rattle.http_sessions.specs.Answering.{RepliesOrLoses, AnswersRequest, AnswersQuestion, AnswersIf, AnswersAt, AnswersStatus, AnswersInfo, AnswersQueryNow, AnswersQueryAt, AnswersQueryIf, AnswersBlockAt, AnswersLastBlock, AnswersBlockQuestion, AnswersPool, AnswersSync, AnswersCommit, AnswersMetrics, AnswersAllMetrics, most_replicas, metrics_shown};
+ghost use Rattle.http_sessions.specs.Answering.{RepliesOrLoses, AnswersRequest, AnswersQuestion, AnswersIf, AnswersAt, AnswersStatus, AnswersInfo, AnswersQueryNow, AnswersQueryAt, AnswersQueryIf, AnswersBlockAt, AnswersLastBlock, AnswersBlockQuestion, AnswersPool, AnswersSync, AnswersCommit, AnswersMetrics, AnswersAllMetrics, most_replicas, exchanges_of_metrics};
 
 use crate::answers::{
     block_answer, delivery_answer, fault_answer, info_answer, pool_answer, query_answer,
     query_answer_at, reply_to, status_answer, sync_answer,
 };
 use crate::targets::HttpTargets;
-use http_messages::{Answer, Commitment, Question, ReplicaMetrics, Request, RequestFault, ServiceFault};
+use http_messages::{
+    Answer, Commitment, Question, ReplicaMetrics, Request, RequestFault, ServiceFault,
+};
 use ledger_model::{Height, ReplicaId};
 use std::alloc::{AllocError, Global};
 
@@ -200,10 +202,10 @@ fn add_metrics<T: HttpTargets>(targets: &mut T, count: usize, all: &mut Vec<Repl
     requires empty { all.old.items ≡ [] }
     requires room { count ≤ vec_capacity all.old }
     ensures each { map (λ m. m.replica) all.new.items ≡ range_with_len 0 (length all.new.items) }
-    ensures metrics_shown { result ≡ true → (length all.new.items ≡ count)
-        × FoldsTo (Makes T.asks T.inquires) targets.old (metrics_shown all.new.items) targets.new }
+    ensures shown { result ≡ true → (length all.new.items ≡ count)
+        × FoldsTo (Makes T.asks T.inquires) targets.old (exchanges_of_metrics all.new.items) targets.new }
     ensures stranger { result ≡ false → (length all.new.items < count)
-        × FoldsTo (Makes T.asks T.inquires) targets.old (metrics_shown all.new.items ++ Inquired (Shows (length all.new.items) None) ∷ []) targets.new }
+        × FoldsTo (Makes T.asks T.inquires) targets.old (exchanges_of_metrics all.new.items ++ Inquired (Shows (length all.new.items) None) ∷ []) targets.new }
     ensures count { T.replicas targets.new ≡ T.replicas targets.old }
 {
     for number in 0..count {

@@ -5,8 +5,10 @@ ghost use Rattle.http_messages.specs.Replies.{http_reply_bytes};
 ghost use Rattle.http_sessions.specs.Answering.{status_answer, info_answer, pool_answer, fault_answer, sync_answer, unpooled_answer, delivery_answer, query_answer, query_answer_at, block_answer};
 
 use crate::targets::{AppInfo, Delivery, PoolSize, Progress};
+use http_messages::{
+    Answer, Commitment, Receipt, RequestFault, ServiceFault, Submission, put_reply,
+};
 use ledger_model::{ApplyFault, Batch, Height, QueryAnswer, ReplicaId, SubmitRefusal};
-use http_messages::{Answer, Commitment, Receipt, RequestFault, ServiceFault, Submission, put_reply};
 use std::alloc::{AllocError, Global};
 
 /// The whole reply to an answer.

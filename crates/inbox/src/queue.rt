@@ -33,7 +33,7 @@ impl Inbox {
     /// The most items in an inbox.
     pub const CAPACITY: usize = 1024;
 
-    /// An inbox, its one taking pass, and `passes` putting passes, whose numbers are their indices.
+    /// An inbox, its one taking pass, and `putters` putting passes, whose numbers are their indices.
     pub fn new(
         alloc: Global,
         putters: u32,

@@ -10,13 +10,13 @@ use Rattle.ledger_model.specs.declared.fault.ApplyFault.{ApplyFault}
 use Rattle.ledger_model.specs.declared.fault.ApplyFault.TheVariants as fault
 use Rattle.locked_replica.specs.States.{StateView, RunsAlone, AccountsForLeaves, SignsEachOnce, UsesAsSigned, due_next, is_mute_after, keys_in, signs_at}
 
--- What is true of a replica at all times.
+-- What each call that changes a replica leaves true of it.
 pub record IsSound (r : StateView) : Type 0 where
   -- each entry is lawful after those before it, and each signature in a reply verifies
   pub replay : Replay r.config r.ring r.id r.entries
   -- its application is in the state that it reaches when it runs alone on the committed blocks
   pub machine : RunsAlone r
-  -- each leaf that it used signed a statement, or was lost as memory ran out; it is mute only if too few were left
+  -- each leaf that it used signed a statement that it sent, or is counted as lost; it is mute only if too few were left
   pub account : AccountsForLeaves r
   -- no leaf signs two of the statements that its history sends
   pub once : SignsEachOnce r

@@ -1,7 +1,7 @@
 //! A borrowed view of a reply of a history.
 use crate::stored_entry::StoredRoundEnd;
-use bytes::Bytes;
 use crate::string_table::StringTable;
+use bytes::Bytes;
 use ledger_model::{
     Addressee, Batch, BlockResult, Height, Ignored, LastRound, NotHeld, NothingDecided,
     ProposeRefusal, QueryAnswer, RetireRefusal, SubmitRefusal,

@@ -2,15 +2,17 @@
 ghost use Rattle.std.specs.Prelude.{◌≡◌, ◌<◌, ◌∷◌, ◌++◌, [], vec_len, vec_capacity};
 
 use crate::entry_view::EntryView;
-use ledger_model::{ApplyFault, Batch, Config, Entries, Event, Height, History, Ignored, ReplicaId};
 use crate::snapshot::{Snapshot, copy_entries};
 use crate::stored_entry::StoredEntry;
+use crate::string_table::StringTable;
 use crate::taking::take_event;
 use abci::{Application, Info};
 use batch_pool::Pool;
 use bytes::Bytes;
-use crate::string_table::StringTable;
 use key_ring::{KeyRing, Signer};
+use ledger_model::{
+    ApplyFault, Batch, Config, Entries, Event, Height, History, Ignored, ReplicaId,
+};
 use replica_core::Core;
 use signed_frames::{Frame, SignedPart};
 use std::alloc::{AllocError, Global};

@@ -8,9 +8,9 @@ ghost use Rattle.locked_replica.specs.Strings.{Extends};
 ghost use Rattle.locked_replica.specs.StoredEntries.{IsTakenAs, LeavesCore, IsDelivered, BringsNone};
 
 use crate::stored_entry::{StoredEntry, store_round_end};
+use crate::string_table::StringTable;
 use abci::Application;
 use bytes::Bytes;
-use crate::string_table::StringTable;
 use ledger_model::{Entry, Event, Ignored, Reply};
 use replica_core::Core;
 use std::alloc::{AllocError, Global};

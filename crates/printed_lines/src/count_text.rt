@@ -46,7 +46,7 @@ pub(crate) fn count_text(
     histories: &[History],
 ) -> Result<String, AllocError> {
     let replicas = config.replicas;
-    let needed = replicas.saturating_sub(config.faults);
+    let needed = config.quorum();
     let given = given_text(alloc, config, histories)?;
     format!(in alloc;
         "An audit needs the histories of at least {needed} different replicas with numbers below {replicas}: {given}."

@@ -2,13 +2,15 @@
 use crate::count_text::count_text;
 use crate::entry_text::accepted_text;
 use history_audit::AuditFault;
-use ledger_model::{Config, Entry, History, ReplicaId};
+use ledger_model::{Config, Entry, History, ReplicaId, history_of};
 use std::alloc::{AllocError, Global};
 
 /// The entry of this index in the replica's history.
 fn entry_of(histories: &[History], replica: ReplicaId, index: usize) -> Option<&Entry> {
-    let history = histories.iter().find(|history| history.replica == replica)?;
-    history.entries.as_slice().get(index)
+    history_of(histories, replica)?
+        .entries
+        .as_slice()
+        .get(index)
 }
 
 /// What it means that a history isn't a replay.

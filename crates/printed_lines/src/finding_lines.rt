@@ -2,9 +2,9 @@
 ghost use Rattle.std.specs.Prelude.{◌≡◌, ◌++◌, OnOk};
 ghost use Rattle.printed_lines.specs.AuditLines.{block_line, block_lines, ledger_text, fault_text, finding_text, finding_status, receipt_line};
 
+use crate::Text;
 use history_audit::AuditFault;
 use ledger_model::{Batch, Ledger, ReplicaId};
-use crate::Text;
 use std::alloc::AllocError;
 
 /// `H BATCH`.

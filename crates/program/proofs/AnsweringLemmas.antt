@@ -62,7 +62,7 @@ answers_both a b c xs ys s t first second = record {
 
 -- all of the events are the first of them
 pub some_all : (a b : StateView) (xs : List Event) (s : List ℕ) → AnswersEvents a xs s b → AnswersSome a xs s b
-some_all a b xs s all = record { taken = xs; later = []; split = append-nil xs; last = b; answers = all; refused = record { same = refl } }
+some_all a b xs s all = record { taken = xs; later = []; split = append-nil xs; last = b; answers = all; refused = record { same = refl; least = omega arith } }
 
 -- none is, of any events
 pub some_none : (a b : StateView) (xs : List Event) → TakesNoEvent a b → AnswersSome a xs [] b
@@ -129,7 +129,7 @@ pub taken_silently : {F : Type 0} (old new : StateView) (e : Event) (outcome : R
 taken_silently old new e (Ok index) (Ok u) alike applied refused sound silent =
     answers_one old new e applied.reply [] applied.added applied.rest sound.replay applied.used sound.account
     (silent applied.reply applied.lawful)
-taken_silently old new e (Err why) (Err stop) alike applied refused sound silent = record { same = refused.rest }
+taken_silently old new e (Err why) (Err stop) alike applied refused sound silent = record { same = refused.rest; least = refused.least }
 taken_silently old new e (Ok index) (Err stop) alike applied refused sound silent = absurd cc
 taken_silently old new e (Err why) (Ok u) alike applied refused sound silent = absurd cc
 

@@ -18,7 +18,7 @@ use Rattle.program.specs.Lines.{last_line}
 use Rattle.byte_streams.specs.Writing.{AppendsSome}
 use Rattle.program.specs.Answering.{AnswersEvents, AnswersSome, deliveries, fresh, starting}
 use Rattle.program.specs.Streams.{Delivers, DeliversSome, DeliversStream, DeliversStreamSome}
-use Rattle.program.specs.Streams.{StreamHasEnded, FillsHistory, IsMuteOnlySpent, EndsFrames, StreamHasStopped}
+use Rattle.program.specs.Streams.{StreamHasEnded, FillsHistory, IsMuteOnlySpent, SplitsWithEnd, StreamHasStopped}
 use Rattle.ledger_model.specs.Spelling.{Frames}
 use Rattle.byte_streams.proofs.WritingLemmas.{nothing_some, then_some}
 use Rattle.program.proofs.AnsweringLemmas.{answers_both, some_after, some_longer}
@@ -62,7 +62,7 @@ delivers : (s : DeliverSettings) (b d : StateView) (unread left before after : O
 delivers s b d unread left before after end first ended =
     let all = answers_both (fresh s) b d (starting s) (deliveries ended.frames) [] ended.text first ended.answers in record {
       frames = ended.frames;
-      stands = subst (λ (r : StateView). EndsFrames r.config.frames ended.input ended.frames end) first.grown.same ended.stands;
+      stands = subst (λ (r : StateView). SplitsWithEnd r.config.frames ended.input ended.frames end) first.grown.same ended.stands;
       entries = all.added;
       events = all.these;
       replay = added_replay s d (starting s ++ deliveries ended.frames) ended.text all;

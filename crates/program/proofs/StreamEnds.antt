@@ -12,7 +12,7 @@ use Rattle.program.specs.declared.stream_end.StreamEnd.{StreamEnd}
 use Rattle.program.specs.declared.stream_end.StreamEnd.TheVariants.{Whole, Cut, Fault}
 use Rattle.program.specs.declared.stream_end.StreamFault.{StreamFault}
 use Rattle.program.specs.Answering.{deliveries}
-use Rattle.program.specs.Streams.{StreamHasEnded, ContinuesStream, IsReadTo, EndsFrames, StreamHasStopped, UnderWay}
+use Rattle.program.specs.Streams.{StreamHasEnded, ContinuesStream, IsReadTo, SplitsWithEnd, StreamHasStopped, UnderWay}
 use Rattle.byte_streams.proofs.WritingLemmas.{all_some}
 use Rattle.program.proofs.AnsweringLemmas.{answers_none, some_all}
 
@@ -37,7 +37,7 @@ pub ended_of : (start state : StateView) (unread now left before out : Option (L
     (n : ℕ) (piece : List ℕ)
     → UnderWay start unread now before out state reader → Consumes now left (take n piece) → n ≡ 0 → IsReadTo end left
     → ((input : List ℕ) (given : List SignedStatement) (kept : List ℕ) → reader.state ≡ Reading kept
-    → SplitsTo reader.version input given kept → EndsFrames reader.version input given end)
+    → SplitsTo reader.version input given kept → SplitsWithEnd reader.version input given end)
     → StreamHasEnded start unread left before out state end
 ended_of start state unread now left before out reader end n piece so_far read none to_end stands =
     let nothing : Consumes now left [] = subst (λ k. Consumes now left (take k piece)) none read in record {
@@ -90,13 +90,13 @@ kept_of Failed = []
 
 -- a stream of whole frames
 pub whole_stands : (version : Version) (reader : ReaderState) (input kept : List ℕ) (given : List SignedStatement) → reader ≡ Reading []
-    → reader ≡ Reading kept → SplitsTo version input given kept → EndsFrames version input given Whole
+    → reader ≡ Reading kept → SplitsTo version input given kept → SplitsWithEnd version input given Whole
 unfolding kept_of
 whole_stands version reader input kept given between reading splits =
     let none : kept ≡ [] = ap kept_of (sym reading ∙ between) in subst (λ k. SplitsTo version input given k) none splits
 
 -- a stream that breaks off within a frame
 pub cut_stands : (version : Version) (reader : ReaderState) (input kept : List ℕ) (given : List SignedStatement) → (reader ≡ Reading [] → ⊥)
-    → reader ≡ Reading kept → SplitsTo version input given kept → EndsFrames version input given Cut
+    → reader ≡ Reading kept → SplitsTo version input given kept → SplitsWithEnd version input given Cut
 cut_stands version reader input [] given within reading splits = absurd (within reading)
 cut_stands version reader input (b ∷ bs) given within reading splits = (b ∷ bs, (splits, omega arith))

@@ -1,5 +1,5 @@
 -- A replica's replies to events in order, and the text that is printed for them.
-use Rattle.std.specs.Prelude.{◌≡◌, ℕ, List, ◌∷◌, ◌++◌, map, replicate, Option, Result, MatchResult}
+use Rattle.std.specs.Prelude.{◌≡◌, ◌≤◌, ℕ, List, ◌∷◌, ◌++◌, map, replicate, Option, Result, MatchResult}
 use Rattle.ledger_model.specs.declared.event.Event.{Event}
 use Rattle.ledger_model.specs.declared.event.Event.TheVariants as event
 use Rattle.ledger_model.specs.declared.history.Entry.{Entry}
@@ -25,6 +25,7 @@ pub record Grows (old : StateView) (added : List Entry) (new : StateView) : Type
 -- the replica took no event, but it may have used leaves
 pub record TakesNoEvent (old new : StateView) : Type 0 where
   pub same : new ≡ record old { used = new.used }
+  pub least : old.used ≤ new.used
 
 -- the replica took these events, in order; the text is the lines of its replies
 pub record AnswersEvents (old : StateView) (events : List Event) (text : List ℕ) (new : StateView) : Type 0 where

@@ -35,10 +35,10 @@ Breaks version TooLong input frames = BreaksOff BeginsTooLong version input fram
 Breaks version Malformed input frames = BreaksOff BeginsMalformed version input frames
 
 -- the bytes of the stream are these frames, followed by this end
-abbrev pub EndsFrames : Version → List ℕ → List SignedStatement → StreamEnd → Type 0
-EndsFrames version input frames Whole = SplitsTo version input frames []
-EndsFrames version input frames Cut = (rest : List ℕ) × (SplitsTo version input frames rest × (1 ≤ length rest))
-EndsFrames version input frames (Fault fault) = Breaks version fault input frames
+abbrev pub SplitsWithEnd : Version → List ℕ → List SignedStatement → StreamEnd → Type 0
+SplitsWithEnd version input frames Whole = SplitsTo version input frames []
+SplitsWithEnd version input frames Cut = (rest : List ℕ) × (SplitsTo version input frames rest × (1 ≤ length rest))
+SplitsWithEnd version input frames (Fault fault) = Breaks version fault input frames
 
 -- to find this end the whole stream was read; after a fault, the rest may be unread
 abbrev pub IsReadTo : StreamEnd → Option (List ℕ) → Type 0
@@ -87,7 +87,7 @@ pub record StreamHasEnded (start : StateView) (unread left before after : Option
   pub text : List ℕ
   pub read : Consumes unread left input
   pub found : IsReadTo end left
-  pub stands : EndsFrames start.config.frames input frames end
+  pub stands : SplitsWithEnd start.config.frames input frames end
   pub answers : AnswersEvents start (deliveries frames) text now
   pub written : Appends before after text
 
@@ -117,7 +117,7 @@ IsMuteOnlySpent s entries = IsMuteForWant s.cluster.config s.replica (leaves_of 
 -- events, and its lawful replies have these lines; the last line reports what is wrong with the stream.
 pub record Delivers (s : DeliverSettings) (input : List ℕ) (end : StreamEnd) (text : List ℕ) : Type 0 where
   pub frames : List SignedStatement
-  pub stands : EndsFrames s.cluster.config.frames input frames end
+  pub stands : SplitsWithEnd s.cluster.config.frames input frames end
   pub entries : List Entry
   pub events : map (λ e. e.event) entries ≡ starting s ++ deliveries frames
   pub replay : Replay s.cluster.config (ring_of s.cluster) s.replica entries

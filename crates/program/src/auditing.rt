@@ -9,11 +9,11 @@ ghost use Rattle.program.specs.Auditing.{Audited, Audits, AuditsSome, audit_stat
 use crate::history_input::{print_bad_history, read_history_input};
 use crate::outcome::Conclusion;
 use crate::status::BAD_INPUT;
-use history_audit::{AuditFault, are_of_a_quorum, audited};
-use printed_lines::{Text, add_finding, add_receipt, explanation, finding_status, has_receipt};
-use cluster_setup::{AuditSettings, ClusterSeed, all_keys};
-use ledger_model::{Config, History, Ledger};
 use byte_streams::{ProgramFault, write_output};
+use cluster_setup::{AuditSettings, ClusterSeed, all_keys};
+use history_audit::{AuditFault, are_of_a_quorum, audited};
+use ledger_model::{Config, History, Ledger};
+use printed_lines::{Text, add_finding, add_receipt, explanation, finding_status, has_receipt};
 use std::alloc::{AllocError, Global};
 use std::io::{Read, Write};
 use std::random::RandomSource;

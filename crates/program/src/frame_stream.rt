@@ -9,7 +9,7 @@ ghost use Rattle.locked_replica.specs.States.{StateView};
 ghost use Rattle.program.specs.Answering.{Prints, deliveries};
 ghost use Rattle.byte_streams.specs.Faults.{IsMemoryOrAsked};
 ghost use Rattle.program.specs.Faults.{FailsAfter};
-ghost use Rattle.program.specs.Streams.{StreamHasEnded, GoesBehind, ContinuesStream, IsFed, IsReadTo, IsReading, IsStreamFault, EndsFrames, StreamHasStopped, UnderWay};
+ghost use Rattle.program.specs.Streams.{StreamHasEnded, GoesBehind, ContinuesStream, IsFed, IsReadTo, IsReading, IsStreamFault, SplitsWithEnd, StreamHasStopped, UnderWay};
 
 use crate::line::Line;
 use crate::line_printing::print_line;
@@ -17,8 +17,8 @@ use crate::reading::{PIECE_LEN, read_piece};
 use crate::replica::answer;
 use crate::stream_end::{StreamEnd, StreamFault};
 use app_kinds::AnyKind;
-use locked_replica::State;
 use byte_streams::{ProgramFault, Resource};
+use locked_replica::State;
 use signed_frames::{Frame, FrameFault, FrameReader};
 use std::alloc::Global;
 use std::io::{self, ErrorKind, Read, Write};
@@ -111,7 +111,7 @@ fn deliver_piece<W: Write>(
 fn end_of(frames: &FrameReader) -> StreamEnd
     requires { IsReading frames.now }
     ensures stands { (input : List ℕ) (given : List SignedStatement) (kept : List ℕ) → frames.now.state ≡ Reading kept
-        → SplitsTo frames.now.version input given kept → EndsFrames frames.now.version input given result }
+        → SplitsTo frames.now.version input given kept → SplitsWithEnd frames.now.version input given result }
     ensures no_fault { (left : Option (List ℕ)) → IsAtEnd left → IsReadTo result left }
 {
     if frames.is_between() {

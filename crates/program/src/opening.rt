@@ -8,8 +8,8 @@ ghost use Rattle.program.specs.Simulating.{simulation_at_start};
 use crate::replica::new_keys;
 use adversary_net::{WorldFault, count_correct};
 use app_kinds::{AnyKind, new_apps};
-use cluster_setup::{ClusterSeed, SimulateSettings};
 use byte_streams::ProgramFault;
+use cluster_setup::{ClusterSeed, SimulateSettings};
 use scenario_texts::Scenario;
 use simulation::Simulation;
 use std::alloc::Global;
@@ -40,7 +40,7 @@ pub(crate) fn new_simulation<S: RandomSource>(
     scenario: &Scenario,
 ) -> Result<Simulation<AnyKind>, ProgramFault>
     requires { IsPlan (plan_of scenario.now) }
-    ensures simulation_at_start { IfOk result (λ simulation. simulation ≡ simulation_at_start settings.now.seed scenario.now.setup.config (plan_of scenario.now)) }
+    ensures opening { IfOk result (λ simulation. simulation ≡ simulation_at_start settings.now.seed scenario.now.setup.config (plan_of scenario.now)) }
     ensures fault { IfErr result IsMemoryOrAsked }
 {
     let setup = &scenario.setup;

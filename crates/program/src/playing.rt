@@ -11,11 +11,11 @@ ghost use Rattle.program.specs.Simulating.{PlansWritten, PlaysWritten, PlaysWrit
 use crate::opening::new_simulation;
 use adversary_net::World;
 use app_kinds::AnyKind;
+use byte_streams::{ProgramFault, write_output};
+use cluster_setup::SimulateSettings;
 use history_bytes::history_bytes;
 use ledger_model::History;
-use byte_streams::{ProgramFault, write_output};
 use scenario_texts::{Command, Scenario};
-use cluster_setup::SimulateSettings;
 use simulation::Simulation;
 use std::alloc::Global;
 use std::io::Write;

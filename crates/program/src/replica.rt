@@ -10,11 +10,11 @@ ghost use Rattle.ledger_model.specs.Limits.{max_history_len};
 
 use crate::line::Line;
 use app_kinds::AnyKind;
+use byte_streams::{ProgramFault, new_random_key};
 use bytes::Bytes;
 use cluster_setup::{DeliverSettings, signer_and_ring};
 use ledger_model::{ApplyFault, Event, Height};
 use locked_replica::{ReplyView, State};
-use byte_streams::{ProgramFault, new_random_key};
 use std::alloc::Global;
 use std::hash::RandomState;
 use std::random::RandomSource;

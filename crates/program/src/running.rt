@@ -19,9 +19,11 @@ use crate::simulating::simulate;
 use crate::status::{BAD_INPUT, BAD_USAGE, DONE};
 use crate::stream_end::StreamEnd;
 use crate::text_end::TextEnd;
-use byte_streams::{ProgramFault, Resource, STOPPED, complain, flush_output, print, write_output, write_whole};
-use command_line::{UsageFault, settings};
+use byte_streams::{
+    ProgramFault, Resource, STOPPED, complain, flush_output, print, write_output, write_whole,
+};
 use cluster_setup::{Settings, SignSettings};
+use command_line::{UsageFault, settings};
 use std::alloc::Global;
 use std::io::{self, ErrorKind, Read, Write};
 use std::random::RandomSource;

@@ -6,8 +6,8 @@ ghost use Rattle.ledger_model.specs.Values.{IsValueIn};
 ghost use Rattle.ledger_model.specs.declared.version.Version.{Version};
 ghost use Rattle.program.specs.Statements.{said};
 
-use ledger_model::{Ack, Batch, Batches, Report, Statement, Tx};
 use cluster_setup::{SignSettings, What};
+use ledger_model::{Ack, Batch, Batches, Report, Statement, Tx};
 use std::alloc::{AllocError, Global};
 
 /// The batch of one transaction.

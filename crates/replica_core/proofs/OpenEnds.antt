@@ -108,7 +108,7 @@ module _ (config : Config) (ring : Ring) (row : InstanceView) (log : List Note) 
   held_frame : (s : SignedStatement) → Has (held_locks log) s → IsFrame s
   held_frame s has =
       let lock = has_map as_statement row.table s (subst (λ ss. Has ss s) (sym old.locks) has) in
-      subst IsFrame lock.1.1 (any_frame row.config.frames (as_statement lock.0) (old.sound.replay lock.0 lock.1.0).frame)
+      subst IsFrame lock.1.1 (any_frame row.config.frames (as_statement lock.0) (old.sound.held lock.0 lock.1.0).frame)
 
   -- the held locks alone at place 4
   pub locks_alone : nat_eq (place_of c) release_place ≡ true → statements_in (frames_of_height config c row m) ≡ held_locks log

@@ -1,4 +1,4 @@
--- The state of a replica's core, and when it matches a history.
+-- What a replica derives from its history, and when it matches a history.
 use Rattle.std.specs.Prelude.{◌≡◌, ℕ, ◌+◌, ◌<◌, ◌≤◌, Bool, true, false, is_some, List, [], length, Some, None}
 use Rattle.ledger_model.specs.Limits.{max_height, last_round}
 use Rattle.ledger_model.specs.declared.config.Config.{Config}

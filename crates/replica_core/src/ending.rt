@@ -1,8 +1,8 @@
 //! A round ends, and the next one opens: the end is prepared, which may take memory and leaves, and then finished, which takes neither.
 use crate::closings::make_nothing;
 use crate::prepared::Prepared;
-use crate::replica::Core;
 use crate::replay::Replay;
+use crate::replica::Core;
 use crate::sending::frames_to_send;
 use crate::signing::{count_due, make_all};
 use abci::Application;

@@ -1,6 +1,6 @@
 //! What a replay shows of itself, and so a core. None of these calls changes it.
-use crate::replica::Core;
 use crate::replay::Replay;
+use crate::replica::Core;
 use abci::{Application, Info};
 use batch_pool::Pool;
 use key_ring::KeyRing;

@@ -123,8 +123,9 @@ impl<A: Application> Replay<A> {
         }
     }
 
-    /// Takes one entry, and returns whether its reply is lawful after the entries before it, and everything that it sends is signed. The
-    /// replay then matches the history with this entry. After an entry for which it returned false, the replay matches no history.
+    /// Takes one entry, and returns whether its reply is lawful after the entries before it, and everything that it sends is signed. If it
+    /// returns true, the replay then matches the history with this entry. If it returns false, no clause says which history the replay
+    /// matches: a caller must not use it further.
     ///
     /// The only error is allocation failure, and then nothing changed. An event that gives heights up needs no memory.
     pub fn follow(

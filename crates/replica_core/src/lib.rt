@@ -20,8 +20,8 @@ mod judging;
 mod prepared;
 mod proposing;
 mod querying;
-mod replica;
 mod replay;
+mod replica;
 mod retiring;
 mod sending;
 mod shown_frames;
@@ -30,5 +30,5 @@ mod submitting;
 mod verifying;
 
 pub use prepared::Prepared;
-pub use replica::Core;
 pub use replay::Replay;
+pub use replica::Core;

@@ -1,6 +1,6 @@
 //! The verifier of a core: which signatures it knows is no part of what the core derives from its history.
-use crate::replica::Core;
 use crate::replay::Replay;
+use crate::replica::Core;
 use abci::Application;
 use key_ring::KeyRing;
 use ledger_model::Ignored;

@@ -1,6 +1,7 @@
 -- A replica's answers to its clients.
-use Rattle.std.proofs.Common.{◌≡◌, ℕ, ◌<◌, List, [], ◌∷◌, ◌++◌, length, Some, Ok, Err, refl, ap, ◌∙◌, sym, subst, arith, slice_get}
+use Rattle.std.proofs.Common.{◌≡◌, ℕ, true, ◌<◌, List, [], ◌∷◌, ◌++◌, length, Some, Ok, Err, refl, ap, ◌∙◌, sym, subst, arith, slice_get}
 use Rattle.std.proofs.Common.{length-append, Result}
+use Rattle.std.specs.Prelude.{if◌then◌else◌}
 use Rattle.std.proofs.Math.Seq.{get_or-append_seam}
 use Rattle.std.proofs.lemmas.Cmp.{nat_list_eq_equiv}
 use Rattle.std.proofs.lemmas.Option.{slice_get_read}
@@ -19,7 +20,10 @@ use Rattle.ledger_model.specs.Replies.{query_reply}
 use Rattle.ledger_model.specs.Values.{Value}
 use Rattle.ledger_model.specs.declared.config.AppKind.{AppKind}
 use Rattle.ledger_model.proofs.Lists.{get_last}
-use Rattle.replica_turns.specs.Clients.{IsReceipt, query_reply_in, query_reply_at, with_index}
+use Rattle.locked_replica.specs.Applying.{AppliesEvent, AppliesEach}
+use Rattle.locked_replica.specs.States.{StateView}
+use Rattle.locked_replica.proofs.Applying.{applies_one}
+use Rattle.replica_turns.specs.Clients.{IsReceipt, is_tx_len, query_reply_in, query_reply_at, submit_events, with_index}
 
 -- as of the last block a key is always answered
 pub last_answer : (kind : AppKind) (batches : List Value) (key : List ℕ)
@@ -91,3 +95,9 @@ submit_answered config ring id old new tx bytes (reply.Delivered r) i e answer a
 submit_answered config ring id old new tx bytes (reply.RoundEnded r) i e answer at same grown law found told = absurd law
 submit_answered config ring id old new tx bytes (reply.Executed r) i e answer at same grown law found told = absurd law
 submit_answered config ring id old new tx bytes (reply.Retired r) i e answer at same grown law found told = absurd law
+
+-- the one event of a transaction that a pool may take
+pub one_submit : (tx : List ℕ) (old new : StateView) → is_tx_len tx ≡ true → AppliesEvent old (event.Submit tx) new
+    → AppliesEach old (submit_events tx) new
+one_submit tx old new fits applies =
+    subst (λ b. AppliesEach old (if b then event.Submit tx ∷ [] else []) new) (sym fits) (applies_one old new (event.Submit tx) applies)

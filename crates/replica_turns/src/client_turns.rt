@@ -67,6 +67,7 @@ fn submit_event<A: Application>(
         (submit_reply state.old.config state.old.id state.old.entries tx.now)) }
     ensures receipt { IfOk result (λ answer. IsReceipt state.new.entries tx.now answer) }
     ensures applied { OnOk result (AppliesEvent state.old (events.Submit tx.now) state.new) }
+    ensures sound { OnOk result (IsSound state.new) }
     ensures memory { OnErr result (IsErrOf result ApplyFault.NoMemory) }
     ensures same { OnErr result (state.new ≡ state.old) }
 {

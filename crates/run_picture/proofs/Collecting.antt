@@ -8,7 +8,7 @@ use Rattle.run_picture.specs.declared.picture.Shown.{Shown}
 use Rattle.run_picture.specs.Orders.{shown_from, clock_after}
 use Rattle.run_picture.specs.Frames.{frames_of_entry, deliveries_of_entry}
 use Rattle.run_picture.specs.Facts.{facts_at}
-use Rattle.run_picture.specs.Collected.{Appends, AddsEntries}
+use Rattle.run_picture.specs.Collected.{AddsShown, AddsEntries}
 use Rattle.ledger_model.proofs.Items.{drop_item}
 use Rattle.run_picture.proofs.Orders.{shown_next, shown_last}
 
@@ -43,7 +43,7 @@ clock_within i clock e h = by (is_opened e.reply)
 pub reaches_next : (part : Part) (r : ℕ) (entries : List Entry) (old now next : Shown) (i clock : ℕ) (e : Entry)
     → i < length entries → e ≡ get_or entries i e
     → Reaches part r entries old now i clock
-    → Appends now next (frames_of_entry part r i clock e) (deliveries_of_entry part r i clock e) (facts_at part r i clock e)
+    → AddsShown now next (frames_of_entry part r i clock e) (deliveries_of_entry part r i clock e) (facts_at part r i clock e)
     → Reaches part r entries old next (i + 1) (clock_after clock e)
 reaches_next part r entries old now next i clock e inside is before adds = record {
   within = clock_within i clock e before.within;

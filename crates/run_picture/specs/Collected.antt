@@ -24,7 +24,7 @@ use Rattle.run_picture.specs.Retiring.{retired_marks_of, retired_in}
 use Rattle.run_picture.specs.Pictures.{rounds_in, shown_frames, shown_deliveries, facts_in, shown_decisions, all_retired}
 
 -- these frames, deliveries and facts are appended
-pub record Appends (old new : Shown) (ss : List SentFrame) (ds : List Delivery) (fs : List Mark) : Type 0 where
+pub record AddsShown (old new : Shown) (ss : List SentFrame) (ds : List Delivery) (fs : List Mark) : Type 0 where
   pub sent : new.sent.items ≡ old.sent.items ++ ss
   pub deliveries : new.deliveries.items ≡ old.deliveries.items ++ ds
   pub facts : new.facts.items ≡ old.facts.items ++ fs
@@ -32,7 +32,7 @@ pub record Appends (old new : Shown) (ss : List SentFrame) (ds : List Delivery) 
 -- what replica r's entries show is appended
 abbrev pub AddsEntries : Part → ℕ → List Entry → Shown → Shown → Type 0
 AddsEntries part r entries old new =
-    Appends old new (shown_from (frames_of_entry part r) 0 0 entries) (shown_from (deliveries_of_entry part r) 0 0 entries)
+    AddsShown old new (shown_from (frames_of_entry part r) 0 0 entries) (shown_from (deliveries_of_entry part r) 0 0 entries)
     (shown_from (facts_at part r) 0 0 entries)
 
 -- entry e, of this index, is taken exactly if it continues each replay that the follower matches; what it decides and gives up is then

@@ -7,8 +7,8 @@ use crate::layout::{Layout, statement_y};
 use crate::shapes::{add_shape, line_to};
 use crate::words::{add_addressee, add_answer, add_place, add_source, add_statement};
 use crate::xml::add;
-use ledger_model::{Ignored, ReplicaId, Statement};
 use crate::{Arrival, Delivery, SentFrame};
+use ledger_model::{Ignored, ReplicaId, Statement};
 use std::alloc::AllocError;
 
 /// The class of a frame: the kind of its statement.

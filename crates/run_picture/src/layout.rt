@@ -3,8 +3,8 @@ ghost use Rattle.std.specs.Prelude.{◌≡◌, min};
 ghost use Rattle.std.specs.Option.{option_copied};
 ghost use Rattle.run_picture.specs.Layouts.{most_rounds, layout_of, column_x, row_y, lane_y, statement_y, slot_x, start_x, end_x, width_of, bottom_of, picture_height};
 
-use ledger_model::{Config, Height, LastRound, ReplicaId, Statement};
 use crate::{Moment, Picture, SentFrame};
+use ledger_model::{Config, Height, LastRound, ReplicaId, Statement};
 
 /// The width of the names of replicas, and where the first round begins.
 const LEFT: u64 = 104;

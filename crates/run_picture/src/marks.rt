@@ -6,8 +6,8 @@ use crate::layout::{Layout, lane_y};
 use crate::shapes::{add_label, add_shape};
 use crate::words::add_place;
 use crate::xml::{add, add_value};
-use ledger_model::Batch;
 use crate::{Fact, Mark};
+use ledger_model::Batch;
 use std::alloc::AllocError;
 
 /// The class of a mark.

@@ -9,7 +9,7 @@ ghost use Rattle.ledger_model.specs.Rules.{Ring};
 ghost use Rattle.run_picture.specs.Frames.{frames_of_entry, deliveries_of_entry};
 ghost use Rattle.run_picture.specs.Facts.{facts_at};
 ghost use Rattle.run_picture.specs.Pictures.{IsPictureOf};
-ghost use Rattle.run_picture.specs.Collected.{Appends, AddsEntries, AddsHistory, AddsRow, Collects, IsNothing};
+ghost use Rattle.run_picture.specs.Collected.{AddsShown, AddsEntries, AddsHistory, AddsRow, Collects, IsNothing};
 
 use crate::deliveries::{Delivery, add_delivered};
 use crate::entry_facts::{Mark, add_facts};
@@ -20,9 +20,9 @@ use crate::part::Part;
 use crate::sent_frames::{SentFrame, add_sent};
 use crate::sources::{Arrival, arrivals};
 use abci::Application;
-use ledger_model::{Config, Entry, History, ReplicaId, history_of, is_opened};
-use key_ring::KeyRing;
 use history_follower::shared_verifier;
+use key_ring::KeyRing;
+use ledger_model::{Config, Entry, History, ReplicaId, history_of, is_opened};
 use std::alloc::{AllocError, Global};
 use std::hash::RandomState;
 use verify_cache::Verifier;
@@ -114,7 +114,7 @@ fn add_entry(
     entry: &Entry,
 ) -> Result<(), AllocError>
     requires { clock < 2 ^ 64 - 1 }
-    ensures { OnOk result (Appends shown.old shown.new (frames_of_entry part.now replica index clock entry.now)
+    ensures { OnOk result (AddsShown shown.old shown.new (frames_of_entry part.now replica index clock entry.now)
         (deliveries_of_entry part.now replica index clock entry.now) (facts_at part.now replica index clock entry.now)) }
 {
     add_sent(alloc, &mut shown.sent, part, replica, index, clock, entry)?;

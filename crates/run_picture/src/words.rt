@@ -4,8 +4,8 @@ ghost use Rattle.std.specs.Option.{option_copied};
 ghost use Rattle.run_picture.specs.Words.{head_words, proper_words, report_words, lock_words, ack_words, statement_words, place_words, addressee_words, answer_words, source_words};
 
 use crate::xml::{add, add_value, add_values};
-use ledger_model::{Ack, Addressee, Height, Ignored, Lock, Phase, ReplicaId, Report, Statement};
 use crate::{Moment, SentFrame};
+use ledger_model::{Ack, Addressee, Height, Ignored, Lock, Phase, ReplicaId, Report, Statement};
 use std::alloc::AllocError;
 
 /// Appends `report of height 1 and phase 2 by replica 0`.

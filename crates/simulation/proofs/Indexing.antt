@@ -27,7 +27,7 @@ use Rattle.simulation.specs.declared.report_index.ReportIndex.{ReportIndex}
 use Rattle.simulation.specs.Indexes.{CoversFrames, CoversHistory, IsIndexOf, frame_of_report, frames_of_report, is_at, report_frames}
 use Rattle.simulation.specs.Lies.{first_serving, report_in, signed_report_of, serves}
 use Rattle.ledger_model.specs.Groups.{is_correct}
-use Rattle.simulation.specs.Playing.{KeepsSetup, serving, simulation_of}
+use Rattle.simulation.specs.Playing.{IsReachedByRun, serving, simulation_of}
 use Rattle.simulation.proofs.Growing.{runs_grow}
 
 -- ---- the frames of reports
@@ -207,7 +207,7 @@ index_longer index new list c lies is longer same seen none = record {
 }
 
 -- as the cluster goes on
-pub index_later : (index : ReportIndex) (c d : WorldView) (lies : List (List ℕ)) → IsIndexOf index c lies → KeepsSetup c d
+pub index_later : (index : ReportIndex) (c d : WorldView) (lies : List (List ℕ)) → IsIndexOf index c lies → IsReachedByRun c d
     → IsIndexOf index d lies
 index_later index c d lies is goes = record {
   sent = λ r none below.

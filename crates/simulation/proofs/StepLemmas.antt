@@ -13,20 +13,20 @@ use Rattle.scenario_texts.specs.declared.command.Command.{Command}
 use Rattle.adversary_net.specs.WorldViews.{WorldView, IsSameCluster, SignsFor, world_of}
 use Rattle.adversary_net.specs.Leaves.{IsAnswered, AreAnswered}
 use Rattle.printed_lines.specs.Lines.{step_text}
-use Rattle.simulation.specs.Playing.{SimulationView, Steps, StepsEach, EndsEach, EndsRound, PrintsStep, KeepsSetup, Plays, PlaysAll, PlaysOther}
+use Rattle.simulation.specs.Playing.{SimulationView, Steps, StepsEach, EndsEach, EndsRound, PrintsStep, IsReachedByRun, Plays, PlaysAll, PlaysOther}
 use Rattle.simulation.specs.Playing.{PlaysStep, passes_of, step_of}
 
 -- ---- a run that goes on
 
-pub stays : (c : WorldView) → KeepsSetup c c
+pub stays : (c : WorldView) → IsReachedByRun c c
 unfolding Runs
 stays c = record { steps = []; answers = []; runs = refl; config = refl; ring = refl }
 
-pub stays_in : (c d : WorldView) → world_of d ≡ world_of c → d.config ≡ c.config → d.ring ≡ c.ring → KeepsSetup c d
+pub stays_in : (c d : WorldView) → world_of d ≡ world_of c → d.config ≡ c.config → d.ring ≡ c.ring → IsReachedByRun c d
 unfolding Runs
 stays_in c d world config ring = record { steps = []; answers = []; runs = world; config = config; ring = ring }
 
-pub goes_on : (c d e : WorldView) → KeepsSetup c d → KeepsSetup d e → KeepsSetup c e
+pub goes_on : (c d e : WorldView) → IsReachedByRun c d → IsReachedByRun d e → IsReachedByRun c e
 goes_on c d e first next = record {
   steps = first.steps ++ next.steps;
   answers = first.answers ++ next.answers;
@@ -38,7 +38,7 @@ goes_on c d e first next = record {
 }
 
 pub goes_by : (c d : WorldView) (steps : List WorldStep) (answers : List WorldReply)
-    → Runs c.config c.ring (world_of c) steps answers (world_of d) → IsSameCluster c d → KeepsSetup c d
+    → Runs c.config c.ring (world_of c) steps answers (world_of d) → IsSameCluster c d → IsReachedByRun c d
 goes_by c d steps answers runs same = record { steps = steps; answers = answers; runs = runs; config = same.config; ring = same.ring }
 
 -- a liar's signature changes neither the configuration nor the keys of the others
@@ -49,7 +49,7 @@ same_config view c r message answer d (old, new, (at, signs, same)) =
 
 -- it is no step
 pub signs_on : {X : Type 0} (view : X → List ℕ) (c : WorldView) (r : ℕ) (message : List ℕ) (answer : Result X SignFault) (d : WorldView)
-    → SignsFor view c r message answer d → KeepsSetup c d
+    → SignsFor view c r message answer d → IsReachedByRun c d
 signs_on view c r message answer d signs =
     let stay = same_config view c r message answer d signs in
     stays_in c d (signed_world view c r message answer d signs) stay.0 stay.1
@@ -57,9 +57,9 @@ signs_on view c r message answer d signs =
 -- nor is a signature that isn't given
 pub signs_or_not : {X : Type 0} (view : X → List ℕ) (c : WorldView) (r : ℕ) (message : List ℕ) (answer : Option (Result X SignFault))
     (d : WorldView)
-    → IfSome answer (λ given. SignsFor view c r message given d) → IfNone answer (d ≡ c) → KeepsSetup c d
+    → IfSome answer (λ given. SignsFor view c r message given d) → IfNone answer (d ≡ c) → IsReachedByRun c d
 signs_or_not view c r message (Some given) d signs none = signs_on view c r message given d signs
-signs_or_not view c r message None d signs none = subst (KeepsSetup c) (sym none) (stays c)
+signs_or_not view c r message None d signs none = subst (IsReachedByRun c) (sym none) (stays c)
 
 -- ---- one step
 

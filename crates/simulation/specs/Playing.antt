@@ -183,17 +183,17 @@ abbrev pub frame_with : Statement → List ℕ → List ℕ
 frame_with said signature = frame_bytes (record { statement = said; signature = signature })
 
 -- the outcome of a lie that a liar is asked to sign: it is told, or no leaf is left
-abbrev pub TellsOneLie : Lie → Statement → SimulationView → Result (List ℕ) SignFault → List ℕ → SimulationView → Type 0
-TellsOneLie l said p (Ok signature) text q =
+abbrev pub EndsLie : Lie → Statement → SimulationView → Result (List ℕ) SignFault → List ℕ → SimulationView → Type 0
+EndsLie l said p (Ok signature) text q =
     TellsLie l p.cluster said signature text q.cluster × (q.lies ≡ p.lies ++ frame_with said signature ∷ [])
-TellsOneLie l said p (Err sign.Exhausted) text q =
+EndsLie l said p (Err sign.Exhausted) text q =
     Signed p.cluster l.liar said (Err sign.Exhausted) q.cluster × (q.lies ≡ p.lies) × (text ≡ with_line_feed (codes "exhausted"))
-TellsOneLie l said p (Err sign.NoMemory) text q = ⊥
+EndsLie l said p (Err sign.NoMemory) text q = ⊥
 
 -- a liar tells the lie; a replica that is not a liar tells none
 abbrev pub Lies : Lie → Statement → SimulationView → List ℕ → SimulationView → Type 0
 Lies l said p text q =
-    ((given : Result (List ℕ) SignFault) × TellsOneLie l said p given text q)
+    ((given : Result (List ℕ) SignFault) × EndsLie l said p given text q)
     ⊎ ((liar_at p.cluster l.liar ≡ None) × (q ≡ p) × (text ≡ []))
 
 -- a liar tells a lock with this proof, if there are enough serving reports; otherwise the text is that it cannot
@@ -292,7 +292,7 @@ pub record EndsRound (correct : List ℕ) (c : WorldView) (r : ℕ) (before afte
 
 -- whatever the command, steps of the definitions lead from the old cluster to the new one, which has the same
 -- configuration and keys
-pub record KeepsSetup (c d : WorldView) : Type 0 where
+pub record IsReachedByRun (c d : WorldView) : Type 0 where
   pub steps : List WorldStep
   pub answers : List WorldReply
   pub runs : Runs c.config c.ring (world_of c) steps answers (world_of d)

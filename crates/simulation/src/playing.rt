@@ -45,12 +45,12 @@ impl<A: Application> Simulation<A> {
     ghost use Rattle.std.specs.Prelude.{◌++◌, None, ℕ, List, OnOk};
     ghost use Rattle.printed_lines.specs.Lines.{step_text};
     ghost use Rattle.adversary_net.specs.WorldViews.{world_of};
-    ghost use Rattle.simulation.specs.Playing.{Plays, PlaysStep, PlaysOther, KeepsSetup, info_text};
+    ghost use Rattle.simulation.specs.Playing.{Plays, PlaysStep, PlaysOther, IsReachedByRun, info_text};
 
     /// Takes a step, and appends its lines.
     fn play_step(&mut self, step: &WorldStep, out: &mut Text) -> Result<(), AllocError>
         ensures done { OnOk result ((text : List ℕ) × (PlaysStep self.old step.now text self.new × (out.new ≡ out.old ++ text))) }
-        ensures goes_on { KeepsSetup self.old.cluster self.new.cluster }
+        ensures goes_on { IsReachedByRun self.old.cluster self.new.cluster }
     {
         self.step(step, out)?;
         Ok(())
@@ -71,7 +71,7 @@ impl<A: Application> Simulation<A> {
     fn play_other(&mut self, command: &Command, out: &mut Text) -> Result<(), AllocError>
         requires { step_of command.now ≡ None }
         ensures done { OnOk result ((text : List ℕ) × (PlaysOther self.old command.now text self.new × (out.new ≡ out.old ++ text))) }
-        ensures goes_on { KeepsSetup self.old.cluster self.new.cluster }
+        ensures goes_on { IsReachedByRun self.old.cluster self.new.cluster }
     {
         match command {
             Command::Info { replica } => self.add_info(named(*replica), out),
@@ -91,7 +91,7 @@ impl<A: Application> Simulation<A> {
     #[tactic(auto, using(crate::proofs::StepLemmas::stays))]
     fn play_into(&mut self, command: &Command, out: &mut Text) -> Result<(), AllocError>
         ensures done { OnOk result ((text : List ℕ) × (Plays self.old command.now text self.new × (out.new ≡ out.old ++ text))) }
-        ensures goes_on { KeepsSetup self.old.cluster self.new.cluster }
+        ensures goes_on { IsReachedByRun self.old.cluster self.new.cluster }
     {
         match step_of(command)? {
             Some(step) => self.play_step(&step, out),
@@ -105,7 +105,7 @@ impl<A: Application> Simulation<A> {
     pub fn play(&mut self, command: &Command) -> Result<Text, AllocError>
         ensures plays { IfOk result (λ text. Plays self.old command.now text self.new) }
         // Whatever is returned, steps of the definitions lead from the old world to the new one.
-        ensures goes_on { KeepsSetup self.old.cluster self.new.cluster }
+        ensures goes_on { IsReachedByRun self.old.cluster self.new.cluster }
     {
         let mut text = Text::new(self.allocator());
         self.play_into(command, &mut text)?;

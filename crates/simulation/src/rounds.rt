@@ -111,7 +111,7 @@ impl<A: Application> Simulation<A> {
     ghost use Rattle.ledger_model.specs.Worlds.{entries_in, frames_sent};
     ghost use Rattle.adversary_net.specs.WorldViews.{world_of};
     ghost use Rattle.printed_lines.specs.Lines.{step_text};
-    ghost use Rattle.simulation.specs.Playing.{EndsEach, StepsEach, PlaysRound, PlaysSilent, KeepsSetup, EndsRound, correct_in, passes_of, pass_text};
+    ghost use Rattle.simulation.specs.Playing.{EndsEach, StepsEach, PlaysRound, PlaysSilent, IsReachedByRun, EndsRound, correct_in, passes_of, pass_text};
     ghost use Rattle.ledger_model.specs.Limits.{max_history_len};
 
     /// Appends the passes of the frames that a step sent; its replica had sent `before` frames earlier.
@@ -144,7 +144,7 @@ impl<A: Application> Simulation<A> {
     ) -> Result<(), AllocError>
         ensures done { OnOk result (EndsRound correct.now self.old.cluster replica out.old out.new passes.old.items passes.new.items self.new.cluster) }
         ensures lies { self.new.lies ≡ self.old.lies }
-        ensures goes_on { KeepsSetup self.old.cluster self.new.cluster }
+        ensures goes_on { IsReachedByRun self.old.cluster self.new.cluster }
     {
         let before = self.world.frames_sent(replica);
         let answer = self.step(&WorldStep::RoundEnd(replica), out)?;
@@ -162,7 +162,7 @@ impl<A: Application> Simulation<A> {
             × (EndsEach correct.now self.old.cluster correct.now text more self.new.cluster
             × (out.new ≡ out.old ++ text) × (passes.new.items ≡ passes.old.items ++ more)))) }
         ensures lies { self.new.lies ≡ self.old.lies }
-        ensures goes_on { KeepsSetup self.old.cluster self.new.cluster }
+        ensures goes_on { IsReachedByRun self.old.cluster self.new.cluster }
     {
         for replica in correct {
             self.end(correct, *replica, passes, out)?;
@@ -176,7 +176,7 @@ impl<A: Application> Simulation<A> {
             × (EndsEach (correct_in self.old.cluster) self.old.cluster (correct_in self.old.cluster) text more self.new.cluster
             × (out.new ≡ out.old ++ text) × (passes.new.items ≡ passes.old.items ++ more)))) }
         ensures lies { self.new.lies ≡ self.old.lies }
-        ensures goes_on { KeepsSetup self.old.cluster self.new.cluster }
+        ensures goes_on { IsReachedByRun self.old.cluster self.new.cluster }
     {
         let correct = self.correct()?;
         self.end_each(&correct, passes, out)
@@ -187,7 +187,7 @@ impl<A: Application> Simulation<A> {
         ensures done { OnOk result ((text : List ℕ)
             × (StepsEach pass_text self.old.cluster passes.now text self.new.cluster × (out.new ≡ out.old ++ text))) }
         ensures lies { self.new.lies ≡ self.old.lies }
-        ensures goes_on { KeepsSetup self.old.cluster self.new.cluster }
+        ensures goes_on { IsReachedByRun self.old.cluster self.new.cluster }
     {
         for step in passes {
             self.pass(step, out)?;
@@ -198,7 +198,7 @@ impl<A: Application> Simulation<A> {
     /// Each correct replica ends its round, and nothing is passed on.
     pub(crate) fn play_silent(&mut self, out: &mut Text) -> Result<(), AllocError>
         ensures done { OnOk result ((text : List ℕ) × (PlaysSilent self.old text self.new × (out.new ≡ out.old ++ text))) }
-        ensures goes_on { KeepsSetup self.old.cluster self.new.cluster }
+        ensures goes_on { IsReachedByRun self.old.cluster self.new.cluster }
     {
         let mut passes = Vec::new(self.allocator());
         self.end_all(&mut passes, out)
@@ -208,7 +208,7 @@ impl<A: Application> Simulation<A> {
     pub(crate) fn play_round(&mut self, out: &mut Text) -> Result<(), AllocError>
         ensures done { OnOk result ((text : List ℕ) × (PlaysRound self.old.cluster text self.new.cluster × (out.new ≡ out.old ++ text))) }
         ensures lies { self.new.lies ≡ self.old.lies }
-        ensures goes_on { KeepsSetup self.old.cluster self.new.cluster }
+        ensures goes_on { IsReachedByRun self.old.cluster self.new.cluster }
     {
         let mut passes = Vec::new(self.allocator());
         self.end_all(&mut passes, out)?;

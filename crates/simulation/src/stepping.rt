@@ -42,7 +42,7 @@ impl<A: Application> Simulation<A> {
     ghost use Rattle.adversary_net.specs.WorldViews.{world_of};
     ghost use Rattle.adversary_net.specs.Leaves.{IsAnswered};
     ghost use Rattle.printed_lines.specs.Lines.{undecided, step_text};
-    ghost use Rattle.simulation.specs.Playing.{PrintsStep, KeepsSetup, answer_text, pass_text, is_accepting};
+    ghost use Rattle.simulation.specs.Playing.{PrintsStep, IsReachedByRun, answer_text, pass_text, is_accepting};
 
     /// The heights that a replica may have open and hasn't decided; none if the replica is not correct.
     fn undecided(&self, replica: ReplicaId) -> Result<Vec<u32>, AllocError>
@@ -59,7 +59,7 @@ impl<A: Application> Simulation<A> {
     fn take(&mut self, step: &WorldStep) -> Result<WorldReply, AllocError>
         ensures taken { IfOk result (λ answer. IsAnswered self.old.cluster step.now answer self.new.cluster) }
         ensures lies { self.new.lies ≡ self.old.lies }
-        ensures goes_on { KeepsSetup self.old.cluster self.new.cluster }
+        ensures goes_on { IsReachedByRun self.old.cluster self.new.cluster }
     {
         match self.world.run(slice::from_ref(step))?.first() {
             Some(answer) => Ok(*answer),
@@ -103,7 +103,7 @@ impl<A: Application> Simulation<A> {
     pub(crate) fn pass(&mut self, step: &WorldStep, out: &mut Text) -> Result<(), AllocError>
         ensures done { OnOk result ((given : WorldReply) × PrintsStep pass_text self.old.cluster step.now given self.new.cluster out.old out.new) }
         ensures lies { self.new.lies ≡ self.old.lies }
-        ensures goes_on { KeepsSetup self.old.cluster self.new.cluster }
+        ensures goes_on { IsReachedByRun self.old.cluster self.new.cluster }
     {
         let undecided = self.undecided(target(step))?;
         let answer = self.take(step)?;
@@ -122,7 +122,7 @@ impl<A: Application> Simulation<A> {
     ) -> Result<WorldReply, AllocError>
         ensures done { IfOk result (λ answer. PrintsStep step_text self.old.cluster step.now answer self.new.cluster out.old out.new) }
         ensures lies { self.new.lies ≡ self.old.lies }
-        ensures goes_on { KeepsSetup self.old.cluster self.new.cluster }
+        ensures goes_on { IsReachedByRun self.old.cluster self.new.cluster }
     {
         let undecided = self.undecided(target(step))?;
         let answer = self.take(step)?;

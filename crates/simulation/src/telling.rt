@@ -26,14 +26,14 @@ impl<A: Application> Simulation<A> {
     ghost use Rattle.ledger_model.specs.Spelling.{frame_bytes};
     ghost use Rattle.ledger_model.specs.declared.statement.Statement.TheVariants as statement;
     ghost use Rattle.printed_lines.specs.Lines.{step_text};
-    ghost use Rattle.simulation.specs.Playing.{IsSigning, StepsEach, Lies, LiesLock, KeepsSetup, injections_to, lie_receivers, proof_for};
+    ghost use Rattle.simulation.specs.Playing.{IsSigning, StepsEach, Lies, LiesLock, IsReachedByRun, injections_to, lie_receivers, proof_for};
 
     /// Asks a liar to sign a statement with its next leaf.
     fn sign(&mut self, liar: ReplicaId, statement: Statement) -> Result<Signing, AllocError>
         requires { IsStatement statement }
         ensures done { IfOk result (λ signing. IsSigning self.old.cluster liar statement signing self.new.cluster) }
         ensures lies { self.new.lies ≡ self.old.lies }
-        ensures goes_on { KeepsSetup self.old.cluster self.new.cluster }
+        ensures goes_on { IsReachedByRun self.old.cluster self.new.cluster }
     {
         let unsigned = UnsignedFrame::new(self.allocator(), statement)?;
         let answer = self.world.sign_as(liar, unsigned.statement_bytes());
@@ -50,7 +50,7 @@ impl<A: Application> Simulation<A> {
         ensures done { OnOk result ((text : List ℕ)
             × (StepsEach step_text self.old.cluster (injections_to receivers.now (frame_bytes frame.now)) text self.new.cluster × (out.new ≡ out.old ++ text))) }
         ensures lies { self.new.lies ≡ self.old.lies }
-        ensures goes_on { KeepsSetup self.old.cluster self.new.cluster }
+        ensures goes_on { IsReachedByRun self.old.cluster self.new.cluster }
     {
         for receiver in receivers {
             let step = WorldStep::Inject {
@@ -77,7 +77,7 @@ impl<A: Application> Simulation<A> {
         ensures done { OnOk result ((text : List ℕ)
             × (StepsEach step_text self.old.cluster (injections_to (lie_receivers self.old.cluster to) (frame_bytes frame.now)) text self.new.cluster × (out.new ≡ out.old ++ text))) }
         ensures lies { self.new.lies ≡ self.old.lies }
-        ensures goes_on { KeepsSetup self.old.cluster self.new.cluster }
+        ensures goes_on { IsReachedByRun self.old.cluster self.new.cluster }
     {
         let receivers = self.receivers(to)?;
         self.inject_each(&receivers, frame, out)
@@ -93,7 +93,7 @@ impl<A: Application> Simulation<A> {
         ensures done { OnOk result ((text : List ℕ)
             × (StepsEach step_text self.old.cluster (injections_to (lie_receivers self.old.cluster to) (frame_bytes frame)) text self.new.cluster
             × (out.new ≡ out.old ++ text) × (self.new.lies ≡ self.old.lies ++ frame_bytes frame ∷ []))) }
-        ensures goes_on { KeepsSetup self.old.cluster self.new.cluster }
+        ensures goes_on { IsReachedByRun self.old.cluster self.new.cluster }
     {
         self.inject(to, &frame, out)?;
         self.lies.push(frame.into_bytes())?;
@@ -104,7 +104,7 @@ impl<A: Application> Simulation<A> {
     fn tell(&mut self, lie: &Lie, statement: Statement, out: &mut Text) -> Result<(), AllocError>
         requires { IsStatement statement }
         ensures done { OnOk result ((text : List ℕ) × (Lies lie.now statement self.old text self.new × (out.new ≡ out.old ++ text))) }
-        ensures goes_on { KeepsSetup self.old.cluster self.new.cluster }
+        ensures goes_on { IsReachedByRun self.old.cluster self.new.cluster }
     {
         match self.sign(lie.liar, statement)? {
             Signing::Signed(frame) => self.inject_and_keep(lie.to, frame, out),
@@ -117,7 +117,7 @@ impl<A: Application> Simulation<A> {
     #[tactic(auto, using(crate::proofs::StepLemmas::stays))]
     pub(crate) fn tell_report(&mut self, lie: &Lie, out: &mut Text) -> Result<(), AllocError>
         ensures done { OnOk result ((text : List ℕ) × (Lies lie.now (statement.Report (lying_report lie.now)) self.old text self.new × (out.new ≡ out.old ++ text))) }
-        ensures goes_on { KeepsSetup self.old.cluster self.new.cluster }
+        ensures goes_on { IsReachedByRun self.old.cluster self.new.cluster }
     {
         let report = report_of(self.allocator(), lie)?;
         self.tell(lie, Statement::Report(report), out)
@@ -127,7 +127,7 @@ impl<A: Application> Simulation<A> {
     #[tactic(auto, using(crate::proofs::StepLemmas::stays))]
     pub(crate) fn tell_ack(&mut self, lie: &Lie, out: &mut Text) -> Result<(), AllocError>
         ensures done { OnOk result ((text : List ℕ) × (Lies lie.now (statement.Ack (lying_ack lie.now)) self.old text self.new × (out.new ≡ out.old ++ text))) }
-        ensures goes_on { KeepsSetup self.old.cluster self.new.cluster }
+        ensures goes_on { IsReachedByRun self.old.cluster self.new.cluster }
     {
         let ack = ack_of(lie)?;
         self.tell(lie, Statement::Ack(ack), out)
@@ -145,7 +145,7 @@ impl<A: Application> Simulation<A> {
     ) -> Result<(), AllocError>
         ensures done { OnOk result ((text : List ℕ)
             × (LiesLock lie.now (proof_for self.old lie.now source) cannot.now self.old text self.new × (out.new ≡ out.old ++ text))) }
-        ensures goes_on { KeepsSetup self.old.cluster self.new.cluster }
+        ensures goes_on { IsReachedByRun self.old.cluster self.new.cluster }
     {
         let Some(proof) = self.proof(lie, source)? else {
             return out.add(cannot);

@@ -1,29 +1,27 @@
 use Rattle.std.proofs.Common.{refl, rules, arith}
+use Rattle.cluster_service.proofs.Outcomes.{query_outcome}
 use Rattle.cluster_service.proofs.asking.query.Goals as goal
 
-pub returns-in-Ok-query-clause-answer : goal.returns-in-Ok-query-clause-answer
-returns-in-Ok-query-clause-answer g c = search rules
+pub returns-clause-answer : goal.returns-clause-answer
+returns-clause-answer g c = search rules
 
-pub returns-in-Ok-query-clause-applied : goal.returns-in-Ok-query-clause-applied
-returns-in-Ok-query-clause-applied g c = search rules
+pub returns-clause-applied : goal.returns-clause-applied
+returns-clause-applied g c = search rules
 
-pub returns-in-Ok-query-clause-long : goal.returns-in-Ok-query-clause-long
-returns-in-Ok-query-clause-long g c = search rules
+pub returns-clause-long : goal.returns-clause-long
+returns-clause-long g c = search rules
 
-pub returns-in-Ok-query-clause-long_same : goal.returns-in-Ok-query-clause-long_same
-returns-in-Ok-query-clause-long_same g c = search rules
+pub returns-clause-long_same : goal.returns-clause-long_same
+returns-clause-long_same g c = search rules
 
-pub returns-in-Ok-query-clause-outcome : goal.returns-in-Ok-query-clause-outcome
-returns-in-Ok-query-clause-outcome g c = record {
-  old = c.args.state.now;
-  new = c.query.new.state;
-  applied = returns-in-Ok-query-clause-applied g c;
-  sound = c.query.ensures.sound;
-  answered = returns-in-Ok-query-clause-answer g c;
-  long_same = returns-in-Ok-query-clause-long_same g c;
-  long = returns-in-Ok-query-clause-long g c;
-  unsigned = c.query.ensures.leaves;
-}
+pub returns-clause-full : goal.returns-clause-full
+returns-clause-full g c = search rules
+
+pub returns-clause-outcome : goal.returns-clause-outcome
+returns-clause-outcome g c =
+    query_outcome c.args.state.now c.query.new.state c.args.key.now c.query.result (returns-clause-applied g c) (returns-clause-answer g c)
+    (returns-clause-long g c) (returns-clause-long_same g c) (λ full. (returns-clause-full g c full).0) c.query.ensures.sound
+    c.query.ensures.leaves
 
 pub returns-in_default-key-clause-answer : goal.returns-in_default-key-clause-answer
 returns-in_default-key-clause-answer g c = search rules

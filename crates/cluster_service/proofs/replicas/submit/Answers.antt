@@ -18,4 +18,4 @@ returns-in-Ok-clause-begun c =
     let answered = subst (λ tx. Goes c.args.state.now c.apply.new.self tx applied.reply)
     (c.in_ok-tx.ensures ∙ c.as_bytes.ensures.bytes) goes in
     first_goes cluster c.args.tx.now id c.apply.new.self applied.reply
-    (subst (λ s. Goes s c.apply.new.self c.args.tx.now given.added.0) c.requires.fresh answered)
+    (subst (λ s. Goes s c.apply.new.self c.args.tx.now applied.reply) c.requires.fresh answered)

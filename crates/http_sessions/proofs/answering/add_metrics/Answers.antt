@@ -2,7 +2,7 @@ use Rattle.std.proofs.Common.{rules, arith, ◌∙◌, ap, ◌+◌, ◌∷◌, L
 use Rattle.std.specs.List.{FoldsTo}
 use Rattle.http_messages.specs.declared.metrics.ReplicaMetrics.{ReplicaMetrics}
 use Rattle.http_sessions.specs.Exchanges.{Makes}
-use Rattle.http_sessions.specs.Answering.{metrics_shown}
+use Rattle.http_sessions.specs.Answering.{exchanges_of_metrics}
 use Rattle.http_sessions.proofs.Showing.{each_more, shown_more, stranger_met}
 use Rattle.http_sessions.proofs.answering.add_metrics.Goals as goal
 
@@ -12,7 +12,7 @@ loop-number-preserved g c =
     let number = c.in-Some.ensures.replica ∙ c.new.ensures in record {
       each = ap (map (λ m. m.replica)) items ∙ each_more c.loop-number.all.items c.in-Some.metrics c.loop-number.number
           c.loop-number.invariant.each number;
-      made = subst (λ l. FoldsTo (Makes g.T.Targets.asks g.T.HttpTargets.inquires) c.args.targets.now (metrics_shown l) c.metrics.new.self)
+      made = subst (λ l. FoldsTo (Makes g.T.Targets.asks g.T.HttpTargets.inquires) c.args.targets.now (exchanges_of_metrics l) c.metrics.new.self)
           (sym {A = List ReplicaMetrics} items)
           (shown_more _ _ _ _ _ _ _ c.loop-number.invariant.made c.in-Some.ensures.replica c.in-Some.ensures.asked);
       count = c.metrics.ensures.count ∙ c.loop-number.invariant.count;

@@ -1,4 +1,4 @@
-use Rattle.std.proofs.Common.{[], ◌∷◌, List, replicate, ◌≡◌, refl, ◌∙◌, subst}
+use Rattle.std.proofs.Common.{[], ◌∷◌, List, replicate, ◌≡◌, refl, ◌∙◌, subst, arith}
 use Rattle.ledger_model.specs.declared.event.Event.{Event}
 use Rattle.ledger_model.specs.declared.event.Event.TheVariants as event
 use Rattle.program.specs.Answering.{AnswersEvents, starting}
@@ -33,4 +33,4 @@ returns-in_err-submit-clause-answers c =
     on_error _ _ c.from_residual.ensures.0 (some_none _ _ (starting c.args.settings.now) c.in_err-submit.ensures.answers)
 
 pub returns-in_default-clause-answers : goal.returns-in_default-clause-answers
-returns-in_default-clause-answers c = some_none _ _ (starting c.args.settings.now) (record { same = refl })
+returns-in_default-clause-answers c = some_none _ _ (starting c.args.settings.now) (record { same = refl; least = omega arith })

@@ -1,5 +1,5 @@
 use Rattle.std.proofs.Common.{◌≡◌, ap, subst}
-use Rattle.simulation.specs.Playing.{KeepsSetup}
+use Rattle.simulation.specs.Playing.{IsReachedByRun}
 use Rattle.simulation.proofs.Indexing.{index_later}
 use Rattle.simulation.proofs.StepLemmas.{stays, signs_or_not}
 use Rattle.simulation.proofs.simulation.Simulation.sign.Goals as goal
@@ -18,7 +18,7 @@ returns-clause-done g c =
 pub returns-clause-goes_on : goal.returns-clause-goes_on
 returns-clause-goes_on g c =
     let signed = c.sign_as-answer in
-    subst (λ s. KeepsSetup s.cluster signed.new.self) c.self.view_is
+    subst (λ s. IsReachedByRun s.cluster signed.new.self) c.self.view_is
     (signs_or_not (λ s. s.items) c.self.inside.world c.args.liar _ signed.result signed.new.self signed.ensures.signs signed.ensures.same)
 
 pub invariant_of-self : goal.invariant_of-self

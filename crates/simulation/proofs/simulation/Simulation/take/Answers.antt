@@ -2,15 +2,15 @@ use Rattle.std.proofs.Common.{◌≡◌, [], ◌∷◌, sym, ap, subst, ◌∙�
 use Rattle.std.specs.Prelude.{slice_get}
 use Rattle.std.specs.Option.{option_copied}
 use Rattle.adversary_net.specs.Leaves.{IsAnswered}
-use Rattle.simulation.specs.Playing.{KeepsSetup}
+use Rattle.simulation.specs.Playing.{IsReachedByRun}
 use Rattle.simulation.proofs.Indexing.{index_later}
 use Rattle.simulation.proofs.StepLemmas.{goes_by, stays, some_answer, the_answer}
 use Rattle.simulation.proofs.simulation.Simulation.take.Goals as goal
 
 pub returns-in_err-run-clause-goes_on : goal.returns-in_err-run-clause-goes_on
 returns-in_err-run-clause-goes_on g c =
-    subst (λ s. KeepsSetup s.cluster c.run.new.self) c.self.view_is
-    (subst (KeepsSetup c.self.inside.world) (sym c.in_err-run.ensures.err) (stays c.self.inside.world))
+    subst (λ s. IsReachedByRun s.cluster c.run.new.self) c.self.view_is
+    (subst (IsReachedByRun c.self.inside.world) (sym c.in_err-run.ensures.err) (stays c.self.inside.world))
 
 pub unreachable-requires : goal.unreachable-requires
 unreachable-requires g c =

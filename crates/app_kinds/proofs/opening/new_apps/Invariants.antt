@@ -3,7 +3,7 @@ use Rattle.std.proofs.Common.{◌≡◌, [], vec_len}
 use Rattle.std.specs.Prelude.{All}
 use Rattle.ledger_model.specs.Applications.{run}
 use Rattle.app_kinds.specs.Chosen.{machine_of}
-use Rattle.app_kinds.proofs.new_apps.new_apps.Given as goal
+use Rattle.app_kinds.proofs.opening.new_apps.Given as goal
 
 abbrev pub invariant-loop : goal.invariant-loop
 invariant-loop l = record { count : vec_len l.apps ≡ l.counter; opening : All (λ app. machine_of app ≡ run l.kind []) l.apps.items }
