@@ -16,7 +16,7 @@ import time
 
 PARTS = ("proof", "tests", "edits")
 # Crates that hardly change: what their proofs take shows how fast the machine is.
-YARDSTICK = ("app_kinds", "client_sessions", "lm_ots", "reply_lines")
+YARDSTICK = ("lm_ots", "statements", "tally", "abci_executor")
 PAGE = """# What the gate costs
 
 One run of the gate, as `.ci/run` wrote it down: every crate proved from nothing, the tests proved and run, each must-fail
