@@ -5,6 +5,7 @@ use byte_streams::{ProgramFault, Resource, require_open};
 use cluster_reports::{SharedStatus, Watcher, start_reporter};
 use cluster_service::{
     ClusterOutcome, Operator, ServerOutcome, cluster, open_histories, open_listeners, serve,
+    write_ports,
 };
 use cluster_setup::{ClusterSettings, ServeSettings};
 use program::{Outcome, finish, refuse_words, run};
@@ -95,7 +96,7 @@ where
 }
 
 /// `abft serve`, if standard output is open, and the file for the histories. The file is emptied only once there are the listeners, so a port
-/// that is taken leaves an earlier file as it was.
+/// that is taken leaves an earlier file as it was. The ports are written before the cluster runs.
 fn run_server<R>(
     rt: &R,
     alloc: Global,
@@ -119,6 +120,7 @@ where
     require_open(&output, Resource::Output)?;
     let listeners = open_listeners(rt, settings)?;
     let mut file = open_histories(rt, &settings.cluster)?;
+    write_ports(alloc, &listeners, &mut output)?;
     let operator = Operator { status, input };
     let ServerOutcome {
         status: ended,

@@ -6,7 +6,7 @@ use Rattle.std.proofs.lemmas.List.{length-take-le}
 use Rattle.std.proofs.Math.Seq.{take-suc}
 use Rattle.std.specs.Io.KnownBytes.{Appends}
 use Rattle.std.specs.List.{flat_map}
-use Rattle.std.proofs.KnownBytes.{Appends-nil, Appends-trans}
+use Rattle.std.proofs.KnownBytes.{Appends-nil}
 use Rattle.std.specs.Result.{IsErrAnd}
 use Rattle.ledger_model.specs.declared.config.Config.{Config}
 use Rattle.ledger_model.specs.declared.history.History.{History}
@@ -20,13 +20,13 @@ use Rattle.printed_lines.specs.AuditLines.{finding_status, finding_text}
 use Rattle.cluster_setup.specs.declared.cluster_settings.ClusterSettings.{ClusterSettings}
 use Rattle.byte_streams.specs.Writing.{AppendsSome}
 use Rattle.byte_streams.proofs.Faults.{each_way}
-use Rattle.byte_streams.proofs.WritingLemmas.{all_some, longer_some, nothing_some, then_some}
+use Rattle.byte_streams.proofs.WritingLemmas.{all_some, nothing_some}
 use Rattle.byte_streams.specs.declared.program_fault.ProgramFault.{ProgramFault}
 use Rattle.byte_streams.specs.declared.program_fault.ProgramFault.TheVariants as fault
 use Rattle.cluster_service.specs.HistoriesFiles.{Saves}
 use Rattle.cluster_service.specs.Lines.{commit_line, commit_lines}
-use Rattle.cluster_service.specs.RunFaults.{IsLineFault, IsRunFault, IsSaveFault, IsWriteFault}
-use Rattle.cluster_service.specs.Reporting.{AreTaken, IsTaken, Reports, ReportsCommits, ReportsEnd, ReportsSome, ReportsPorts, ServesSome}
+use Rattle.cluster_service.specs.RunFaults.{IsLineFault, IsRunFault, IsSaveFault}
+use Rattle.cluster_service.specs.Reporting.{AreTaken, IsTaken, Reports, ReportsCommits, ReportsEnd, ReportsSome}
 use Rattle.cluster_service.specs.Reporting.{WritesFinding, WritesSuch}
 use Rattle.cluster_service.proofs.Taken.{ledger_or_unsent}
 
@@ -184,50 +184,3 @@ nothing_ran s f a empty is = ([], ([], (inl (is, (refl, refl)), (nothing_some a 
 pub ran : (s : ClusterSettings) (r : Result ℕ ProgramFault) (a b empty full : Option (List ℕ))
     → WritesSuch r (Reports s) (λ _. ReportsEnd s) a b empty full → WritesSuch r (Reports s) (ReportsSome s) a b empty full
 ran s r a b empty full ended = each_way _ _ _ _ r (λ status w. w) (λ _ w. (w.0, (w.1.0, (inr w.1.1.0, w.1.1.1)))) ended
-
-module _ (s : ClusterSettings) (ports : List ℕ) where
-  -- nothing was written
-  pub nothing_served : (f : ProgramFault) (a empty : Option (List ℕ)) → IsRunFault f → WrittenSome (ServesSome s ports) f a a empty empty
-  nothing_served f a empty is = ([], ([], (inl (is, (refl, refl)), (nothing_some a [], nothing_saved f empty))))
-
-  -- the lines of the ports were refused
-  pub port_refused : (f : ProgramFault) (a b empty : Option (List ℕ)) → IsWriteFault f → AppendsSome a b (ports)
-      → WrittenSome (ServesSome s ports) f a b empty empty
-  port_refused f a b empty is some = (ports, ([], (inr (inl (is, (refl, refl))), (some, nothing_saved f empty))))
-
-  -- the lines of the ports were written, and then nothing
-  pub port_alone : (f : ProgramFault) (a b empty : Option (List ℕ)) → IsRunFault f → Appends a b (ports)
-      → WrittenSome (ServesSome s ports) f a b empty empty
-  port_alone f a b empty is whole =
-      let served : ReportsPorts ports (ReportsSome s f) (ports ++ []) [] =
-      record { later = []; reports = inl (is, (refl, refl)); shows = refl } in (
-        ports ++ [],
-        ([], (inr (inr served), (longer_some a b (ports) [] (all_some a b (ports) whole), nothing_saved f empty))),
-      )
-
-  -- that line was written, and then what a cluster writes
-  pub port_first : (r : Result ℕ ProgramFault) (a b c empty full : Option (List ℕ)) → Appends a b (ports)
-      → WritesSuch r (Reports s) (λ _. ReportsEnd s) b c empty full
-      → WritesSuch r (λ status. ReportsPorts ports (Reports s status)) (ServesSome s ports) a c empty full
-  port_first r a b c empty full first later = each_way _ _ _ _ r
-      (λ status w. (
-        ports ++ w.0,
-        (
-          w.1.0,
-          (
-            record { later = w.0; reports = w.1.1.0; shows = refl },
-            (Appends-trans a b c (ports) w.0 first w.1.1.1.0, w.1.1.1.1),
-          ),
-        ),
-      ))
-      (λ _ w. (
-        ports ++ w.0,
-        (
-          w.1.0,
-          (
-            inr (inr (record { later = w.0; reports = inr w.1.1.0; shows = refl })),
-            (then_some a b c (ports) w.0 first w.1.1.1.0, w.1.1.1.1),
-          ),
-        ),
-      ))
-      later

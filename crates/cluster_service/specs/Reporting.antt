@@ -19,7 +19,7 @@ use Rattle.cluster_setup.specs.declared.cluster_settings.ClusterSettings.{Cluste
 use Rattle.byte_streams.specs.declared.program_fault.ProgramFault.{ProgramFault}
 use Rattle.cluster_service.specs.HistoriesFiles.{Saves}
 use Rattle.cluster_service.specs.Lines.{commit_lines}
-use Rattle.cluster_service.specs.RunFaults.{IsRunFault, IsWriteFault}
+use Rattle.cluster_service.specs.RunFaults.{IsRunFault}
 
 -- ---- what a cluster leaves
 
@@ -87,19 +87,6 @@ ReportsNothing lines file = (lines ≡ []) × (file ≡ [])
 -- what a cluster that this fault ended has written prefixes of: nothing only if it was not run to its end
 abbrev pub ReportsSome : ClusterSettings → ProgramFault → List ℕ → List ℕ → Type 0
 ReportsSome s fault lines file = (IsRunFault fault × ReportsNothing lines file) ⊎ ReportsEnd s lines file
-
--- the lines have first those of the ports, and then such lines
-pub record ReportsPorts (ports : List ℕ) (P : List ℕ → List ℕ → Type 0) (lines file : List ℕ) : Type 0 where
-  pub later : List ℕ
-  pub reports : P later file
-  pub shows : lines ≡ ports ++ later
-
--- The same of a server with these lines of its ports. If they can't be written, the server is not run.
-abbrev pub ServesSome : ClusterSettings → List ℕ → ProgramFault → List ℕ → List ℕ → Type 0
-ServesSome s ports fault lines file =
-    (IsRunFault fault × ReportsNothing lines file)
-    ⊎ ((IsWriteFault fault × ((lines ≡ ports) × (file ≡ [])))
-    ⊎ ReportsPorts ports (ReportsSome s fault) lines file)
 
 -- Such lines were written, and such bytes into the file. After a fault, prefixes of others were: of the file's bytes only if the fault is
 -- the file's own.

@@ -6,7 +6,6 @@ use Rattle.byte_streams.specs.declared.program_fault.ProgramFault.{ProgramFault}
 use Rattle.byte_streams.specs.declared.program_fault.ProgramFault.TheVariants as fault
 use Rattle.byte_streams.specs.declared.resource.Resource.{Resource}
 use Rattle.byte_streams.specs.declared.resource.Resource.TheVariants as resource
-use Rattle.byte_streams.specs.Writing.{AppendsSome}
 use Rattle.cluster_service.specs.HistoriesFiles.{HistoriesFileView, file_path}
 
 -- a cluster asks for this before it has ended: the input whose end stops it, the clock, and random bytes
@@ -69,9 +68,3 @@ IsPortFault port _ = ⊥
 -- A fault of a run comes before anything is written, into the file too, and all others come once it has ended.
 abbrev pub EndsCluster : Option HistoriesFileView → Option HistoriesFileView → Option (List ℕ) → Option (List ℕ) → ProgramFault → Type 0
 EndsCluster empty full before after f = IsReportFault empty f ⊎ (IsRunFault f × (Keeps before after × (full ≡ empty)))
-
--- The same of a server, which first writes these lines of its ports: by then it has written at most those.
-abbrev pub EndsServer : List ℕ → Option HistoriesFileView → Option HistoriesFileView → Option (List ℕ) → Option (List ℕ) → ProgramFault
-    → Type 0
-EndsServer ports empty full before after f =
-    IsReportFault empty f ⊎ (IsRunFault f × (AppendsSome before after ports × (full ≡ empty)))

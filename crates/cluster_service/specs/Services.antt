@@ -1,6 +1,6 @@
 -- What the operator's settings say of a run, and what ran.
 use Rattle.std.specs.Prelude.{◌≡◌, ℕ, List, Option, option_map, replicate}
-use Rattle.cluster_workers.specs.RunningClusters.{EndedRunView, AreWorkersOf}
+use Rattle.cluster_workers.specs.RunningClusters.{EndedRunView, RunningClusterView, AreWorkersOf}
 use Rattle.cluster_setup.specs.declared.cluster_settings.ClusterSettings.{ClusterSettings}
 use Rattle.cluster_setup.specs.declared.cluster_settings.ServeSettings.{ServeSettings}
 use Rattle.cluster_service.specs.declared.protocol.Protocol.{Protocol}
@@ -15,30 +15,36 @@ pub record IsRunOf (s : ClusterSettings) (run : EndedRunView) : Type 0 where
   pub base_ms : run.base_ms ≡ s.base_ms
   pub begun : run.cluster.begun ≡ all_begun s.cluster s.tx
 
--- how clients were served at one port of 127.0.0.1: the port, what was spoken there, the seats that clients had, and how many entries of
--- each replica's history they might use together
+-- how clients were served at one port of 127.0.0.1: the port, what was spoken there, the cluster whose replicas were asked, the seats that
+-- clients had, and how many entries of each replica's history they might use together
 pub record ServiceView : Type 0 where
   pub port : ℕ
   pub protocol : Protocol
+  pub cluster : RunningClusterView
   pub seats : ℕ
   pub entries : List ℕ
+
+-- the service at a port
+abbrev pub service_at : Protocol → RunningClusterView → ℕ → List ℕ → ℕ → ServiceView
+service_at protocol cluster seats entries port =
+    record { port = port; protocol = protocol; cluster = cluster; seats = seats; entries = entries }
 
 -- the services of a cluster: sessions, and HTTP, if it is served
 pub record ServicesView : Type 0 where
   pub sessions : ServiceView
   pub http : Option ServiceView
 
--- the services that the settings ask for, at these ports
-abbrev pub services_at : ServeSettings → ℕ → Option ℕ → ServicesView
-services_at s port http =
+-- the services that the settings ask for, of this cluster, at these ports
+abbrev pub services_at : ServeSettings → RunningClusterView → ℕ → Option ℕ → ServicesView
+services_at s cluster port http =
     let entries = replicate s.cluster.cluster.config.replicas s.client_entries in
     record {
-      sessions = record { port = port; protocol = protocol.Sessions; seats = s.sessions; entries = entries };
-      http = option_map (λ p. record { port = p; protocol = protocol.Http; seats = 1024; entries = entries }) http;
+      sessions = service_at protocol.Sessions cluster s.sessions entries port;
+      http = option_map (service_at protocol.Http cluster 1024 entries) http;
     }
 
--- These are the services that the settings ask for, at ports that they ask for.
-pub record AreServicesOf (s : ServeSettings) (services : ServicesView) : Type 0 where
+-- These are the services that the settings ask for, at ports that they ask for. The replicas that clients asked are those of this cluster.
+pub record AreServicesOf (s : ServeSettings) (cluster : RunningClusterView) (services : ServicesView) : Type 0 where
   pub port : IsAskedPort s.port services.sessions.port
   pub http : IsAskedIfAny s.http (option_map (λ h. h.port) services.http)
-  pub are : services ≡ services_at s services.sessions.port (option_map (λ h. h.port) services.http)
+  pub are : services ≡ services_at s cluster services.sessions.port (option_map (λ h. h.port) services.http)

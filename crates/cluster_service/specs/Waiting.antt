@@ -1,5 +1,5 @@
 -- What a look at a replica's history finds of a transaction.
-use Rattle.std.specs.Prelude.{ℕ, List, Option}
+use Rattle.std.specs.Prelude.{◌≡◌, ℕ, List, length, Option}
 use Rattle.locked_replica.specs.States.{StateView}
 use Rattle.cluster_workers.specs.RunningClusters.{RunningClusterView}
 use Rattle.cluster_service.specs.Deliveries.{IsDelivery}
@@ -7,8 +7,13 @@ use Rattle.cluster_service.specs.Inquiries.{IsUndelivered, SeesOwn, SeesStranger
 use Rattle.cluster_service.specs.declared.waiting.LookOutcome.{LookOutcome}
 use Rattle.cluster_service.specs.declared.waiting.LookOutcome.TheVariants as look
 
+-- the state has this number of entries
+abbrev pub HasEntries : ℕ → StateView → Type 0
+HasEntries entries state = entries ≡ length state.entries
+
 -- in the state that was seen, from the entry with this index on
 abbrev pub Finds : RunningClusterView → ℕ → Option StateView → List ℕ → ℕ → LookOutcome → Type 0
 Finds cluster r seen tx next (look.Block height code) = SeesOwn cluster r seen (IsDelivery tx next height code)
-Finds cluster r seen tx next (look.Nothing entries) = SeesOwn cluster r seen (IsUndelivered tx next)
+Finds cluster r seen tx next (look.Nothing entries) =
+    SeesOwn cluster r seen (IsUndelivered tx next) × SeesOwn cluster r seen (HasEntries entries)
 Finds cluster r seen tx next look.Stranger = SeesStranger cluster r seen

@@ -37,6 +37,7 @@ pub(crate) fn seats_of<'a, A: Application, R: Wait>(
     requires readers { All (λ reader. reader.board ≡ cluster.now.board) readers.items }
     requires budgets { length budgets.now ≡ cluster.now.replicas }
     ensures count { IfOk result (λ seats. vec_len seats ≡ vec_len readers) }
+    ensures cluster { IfOk result (λ seats. All (λ s. s.targets.cluster.now ≡ cluster.now) seats.items) }
     ensures budgets { IfOk result (λ seats. All (λ s. s.targets.budgets.now ≡ budgets.now) seats.items) }
 {
     let mut seats = Vec::with_capacity(alloc, readers.len())?;

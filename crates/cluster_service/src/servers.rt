@@ -1,5 +1,6 @@
 //! The servers of a running cluster: one of sessions, and one of HTTP, if it is served.
 ghost use Rattle.std.specs.Prelude.{◌≡◌, All, option_map, vec_len};
+ghost use Rattle.cluster_service.specs.Services.{service_at};
 
 use crate::budgets::ClientBudget;
 use crate::door::{Door, LOOK_MS};
@@ -7,6 +8,7 @@ use crate::listening::{Seat, listen};
 use crate::ports::PortListener;
 use crate::protocol::Protocol;
 use abci::Application;
+use cluster_workers::RunningCluster;
 use std::alloc::Global;
 use std::marker::Model;
 use std::net::{Ipv4Addr, Net, TcpListener, TcpStream};
@@ -16,31 +18,38 @@ use std::thread;
 use std::thread::Threads;
 use std::time::{Clock, Duration};
 
-/// How clients were served at one port of 127.0.0.1: what contracts see of it.
+/// How clients of a cluster were served at one port of 127.0.0.1: what contracts see of it.
 #[derive(Drop)]
-pub struct EndedService {
+pub struct EndedService<A: Application> {
     port: u16,
     protocol: Protocol,
+    cluster: Snapshot<RunningCluster<A>>,
     seats: usize,
     budgets: Snapshot<Vec<ClientBudget>>,
 }
 
-impl Model for EndedService {
+impl<A: Application> Model for EndedService<A> {
     ghost use Rattle.cluster_service.specs.Services.{ServiceView};
 
     ghost Value = { ServiceView };
 
-    ghost view = { λ s. record { port = s.port; protocol = s.protocol; seats = s.seats; entries = s.budgets.value.items } };
+    ghost view = { λ s. record {
+      port = s.port;
+      protocol = s.protocol;
+      cluster = s.cluster.value;
+      seats = s.seats;
+      entries = s.budgets.value.items;
+    } };
 }
 
 /// How the clients of a cluster were served: by sessions, and by HTTP, if there was any.
 #[derive(Drop)]
-pub struct EndedServices {
-    sessions: EndedService,
-    http: Option<EndedService>,
+pub struct EndedServices<A: Application> {
+    sessions: EndedService<A>,
+    http: Option<EndedService<A>>,
 }
 
-impl Model for EndedServices {
+impl<A: Application> Model for EndedServices<A> {
     ghost use Rattle.cluster_service.specs.Services.{ServicesView};
 
     ghost Value = { ServicesView };
@@ -48,14 +57,16 @@ impl Model for EndedServices {
     ghost view = { λ s. record { sessions = s.sessions; http = s.http } };
 }
 
-/// A server at one port: its listener, a seat for each connection, the budgets of entries that all clients share, and the door. Contracts
-/// see it as the service that it gives.
+/// A server at one port: its listener, a seat for each connection, the cluster, the budgets of entries that all clients share, and the door.
+/// Contracts see it as the service that it gives.
 pub(crate) struct Server<'a, 'b, A: Application, R: Wait> {
     listener: TcpListener,
     port: u16,
     seats: Vec<Seat<'a, A, R>>,
+    cluster: &'a RunningCluster<A>,
     budgets: &'a Vec<ClientBudget>,
     door: &'b Door<'b>,
+    ghost asked: { All (λ s. s.targets.cluster.now ≡ cluster.now) seats.items },
     ghost shared: { All (λ s. s.targets.budgets.now ≡ budgets.now.items) seats.items },
 }
 
@@ -65,7 +76,13 @@ impl<'a, 'b, A: Application, R: Wait> Model for Server<'a, 'b, A, R> {
 
     ghost Value = { ServiceView };
 
-    ghost view = { λ s. record { port = s.port; protocol = s.door.now.protocol; seats = vec_len s.seats; entries = s.budgets.now.items } };
+    ghost view = { λ s. record {
+      port = s.port;
+      protocol = s.door.now.protocol;
+      cluster = s.cluster.now;
+      seats = vec_len s.seats;
+      entries = s.budgets.now.items;
+    } };
 }
 
 // An own `Drop` keeps proofs short: an owner drops it by one call. See docs/WORKING.md.
@@ -75,6 +92,7 @@ impl<A: Application, R: Wait> Drop for Server<'_, '_, A, R> {
             listener: _listener,
             port: _port,
             seats: _seats,
+            cluster: _cluster,
             budgets: _budgets,
             door: _door,
         } = self;
@@ -83,22 +101,26 @@ impl<A: Application, R: Wait> Drop for Server<'_, '_, A, R> {
 
 impl<'a, 'b, A: Application, R: Wait> Server<'a, 'b, A, R> {
     ghost use Rattle.std.specs.Prelude.{◌≡◌, All, vec_len};
+    ghost use Rattle.cluster_service.specs.Services.{service_at};
 
     /// A server at the port of the listener, which speaks the protocol of the door.
     pub(crate) fn new(
         listener: PortListener,
         seats: Vec<Seat<'a, A, R>>,
+        cluster: &'a RunningCluster<A>,
         budgets: &'a Vec<ClientBudget>,
         door: &'b Door<'b>,
     ) -> Self
-        requires { All (λ s. s.targets.budgets.now ≡ budgets.now.items) seats.items }
-        ensures { result ≡ record { port = listener.port; protocol = door.now.protocol; seats = vec_len seats.entry; entries = budgets.now.items } }
+        requires asked { All (λ s. s.targets.cluster.now ≡ cluster.now) seats.items }
+        requires shared { All (λ s. s.targets.budgets.now ≡ budgets.now.items) seats.items }
+        ensures { result ≡ service_at door.now.protocol cluster.now (vec_len seats.entry) budgets.now.items listener.port }
     {
         let PortListener { listener, port } = listener;
         Server {
             listener,
             port,
             seats,
+            cluster,
             budgets,
             door,
         }
@@ -109,12 +131,13 @@ impl<'b, A: Application, R: Wait> Server<'_, 'b, A, R> {
     ghost use Rattle.std.specs.Prelude.{◌≡◌};
 
     /// What is known of the server once it has ended.
-    fn ended(&self) -> EndedService
+    fn ended(&self) -> EndedService<A>
         ensures { result ≡ self.now }
     {
         EndedService {
             port: self.port,
             protocol: self.door.protocol(),
+            cluster: Snapshot::of(self.cluster),
             seats: self.seats.len(),
             budgets: Snapshot::of(self.budgets),
         }
@@ -136,6 +159,7 @@ impl<A: Application + Send, R: Clock + Threads + Wait + Sync> Server<'_, '_, A, 
             listener,
             port: _port,
             seats,
+            cluster: _cluster,
             budgets: _budgets,
             door,
         } = self;
@@ -147,14 +171,16 @@ impl<A: Application + Send, R: Clock + Threads + Wait + Sync> Server<'_, '_, A, 
 pub(crate) fn http_server<'a, 'b, A: Application, R: Wait>(
     listener: Option<PortListener>,
     seats: Vec<Seat<'a, A, R>>,
+    cluster: &'a RunningCluster<A>,
     budgets: &'a Vec<ClientBudget>,
     door: &'b Door<'b>,
 ) -> Option<Server<'a, 'b, A, R>>
-    requires { All (λ s. s.targets.budgets.now ≡ budgets.now.items) seats.items }
-    ensures { result ≡ option_map (λ l. record { port = l.port; protocol = door.now.protocol; seats = vec_len seats.entry; entries = budgets.now.items }) listener }
+    requires asked { All (λ s. s.targets.cluster.now ≡ cluster.now) seats.items }
+    requires shared { All (λ s. s.targets.budgets.now ≡ budgets.now.items) seats.items }
+    ensures { result ≡ option_map (λ l. service_at door.now.protocol cluster.now (vec_len seats.entry) budgets.now.items l.port) listener }
 {
     match listener {
-        Some(listener) => Some(Server::new(listener, seats, budgets, door)),
+        Some(listener) => Some(Server::new(listener, seats, cluster, budgets, door)),
         None => None,
     }
 }
@@ -162,7 +188,7 @@ pub(crate) fn http_server<'a, 'b, A: Application, R: Wait>(
 /// What is known of a server once it has ended, if there is one.
 fn ended_if_any<A: Application, R: Wait>(
     server: &Option<Server<'_, '_, A, R>>,
-) -> Option<EndedService>
+) -> Option<EndedService<A>>
     ensures { result ≡ server.now }
 {
     match server {
@@ -214,7 +240,7 @@ impl<A: Application, R: Wait> Servers<'_, '_, A, R> {
     ghost use Rattle.std.specs.Prelude.{◌≡◌};
 
     /// What is known of the servers once they have ended.
-    pub(crate) fn ended(&self) -> EndedServices
+    pub(crate) fn ended(&self) -> EndedServices<A>
         ensures { result ≡ record { sessions = self.now.sessions; http = self.now.http } }
     {
         EndedServices {

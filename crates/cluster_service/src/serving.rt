@@ -37,7 +37,7 @@ const HTTP_SEATS: u32 = 1024;
 /// What ran, and how clients were served meanwhile.
 struct Served {
     run: EndedRun<AnyKind>,
-    services: EndedServices,
+    services: EndedServices<AnyKind>,
 }
 
 /// Ends a server, if there is one, and waits until it has ended.
@@ -144,7 +144,7 @@ where
     requires replicas { settings.now.cluster.cluster.config.replicas ≡ prepared.cluster.replicas }
     ensures run { IfOk result (λ served. served.run ≡ prepared.entry) }
     ensures services { IfOk result (λ served. served.services
-        ≡ services_at settings.now listeners.sessions.port (option_map (λ h. h.port) listeners.http)) }
+        ≡ services_at settings.now prepared.entry.cluster listeners.sessions.port (option_map (λ h. h.port) listeners.http)) }
     ensures fault { IfErr result IsRunFault }
 {
     let cluster = prepared.cluster;
@@ -159,8 +159,8 @@ where
     let http_seats = seats_of(rt, alloc, cluster, &budgets, others, &over)?;
     let Listeners { sessions, http } = listeners;
     let servers = Servers {
-        sessions: Server::new(sessions, seats, &budgets, &door),
-        http: http_server(http, http_seats, &budgets, &http_door),
+        sessions: Server::new(sessions, seats, cluster, &budgets, &door),
+        http: http_server(http, http_seats, cluster, &budgets, &http_door),
     };
     run_beside(rt, alloc, prepared, servers)
 }
@@ -181,7 +181,7 @@ fn seat_count(sessions: u32, http: &Option<PortListener>) -> u32
 pub struct EndedServer {
     pub histories: FinalHistories,
     pub run: EndedRun<AnyKind>,
-    pub services: EndedServices,
+    pub services: EndedServices<AnyKind>,
 }
 
 /// Makes a cluster, runs it and serves its clients. Returns what its replicas have at the end.
@@ -206,7 +206,7 @@ where
     ensures taken { IfOk result (λ end. AreTaken settings.now.cluster.cluster.config end.histories.ring 0 end.histories.histories.items end.histories.heights.items) }
     ensures ring { IfOk result (λ end. end.histories.ring ≡ ring_of settings.now.cluster.cluster) }
     ensures run { IfOk result (λ end. IsRunOf settings.now.cluster end.run) }
-    ensures services { IfOk result (λ end. AreServicesOf settings.now end.services) }
+    ensures services { IfOk result (λ end. AreServicesOf settings.now end.run.cluster end.services) }
     ensures fault { IfErr result IsRunFault }
 {
     let run = &settings.cluster;
@@ -260,7 +260,7 @@ where
     // What ran is what the settings say.
     ensures run { IfOk result (λ end. IsRunOf settings.now.cluster end.run) }
     // Clients were served as the settings say.
-    ensures services { IfOk result (λ end. AreServicesOf settings.now end.services) }
+    ensures services { IfOk result (λ end. AreServicesOf settings.now end.run.cluster end.services) }
     ensures fault { IfErr result IsRunFault }
 {
     let gate = new_gate(rt, &settings.cluster, status);

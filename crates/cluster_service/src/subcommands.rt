@@ -2,10 +2,9 @@
 ghost use Rattle.std.specs.Prelude.{◌≡◌, length, option_map, IfErr, IfOk};
 ghost use Rattle.cluster_setup.specs.Keys.{ring_of};
 ghost use Rattle.cluster_service.specs.HistoriesFiles.{file_bytes};
-ghost use Rattle.cluster_service.specs.Lines.{port_lines};
-ghost use Rattle.cluster_service.specs.Reporting.{AreTaken, Reports, ReportsEnd, ReportsSome, ReportsPorts, ServesSome, WritesSuch};
+ghost use Rattle.cluster_service.specs.Reporting.{AreTaken, Reports, ReportsEnd, ReportsSome, WritesSuch};
 ghost use Rattle.cluster_service.specs.Ports.{IsAskedIfAny, IsAskedPort};
-ghost use Rattle.cluster_service.specs.RunFaults.{EndsCluster, EndsServer, IsReportFault, IsRunFault};
+ghost use Rattle.cluster_service.specs.RunFaults.{EndsCluster, IsReportFault, IsRunFault};
 ghost use Rattle.cluster_service.specs.Services.{AreServicesOf, IsRunOf};
 
 use crate::final_histories::FinalHistories;
@@ -15,7 +14,7 @@ use crate::saving::{HistoriesFile, save_histories};
 use crate::servers::EndedServices;
 use crate::serving::{EndedServer, serve_cluster};
 use crate::stop_at_end;
-use crate::writing::{write_lines, write_ports};
+use crate::writing::write_lines;
 use app_kinds::AnyKind;
 use byte_streams::ProgramFault;
 use cluster_reports::SharedStatus;
@@ -117,11 +116,11 @@ where
 pub struct ServerOutcome {
     pub status: u8,
     pub run: EndedRun<AnyKind>,
-    pub services: EndedServices,
+    pub services: EndedServices<AnyKind>,
 }
 
-/// `abft serve`: writes the port of the listener, and that of HTTP, at once; then runs a cluster and serves clients in parallel; at the end writes what
-/// [`cluster`] writes. The listeners come from [`open_listeners`](crate::open_listeners), so no port is refused here.
+/// `abft serve`, once [`write_ports`](crate::write_ports) has written where it listens: runs a cluster and serves clients in parallel; at
+/// the end writes what [`cluster`] writes. The listeners come from [`open_listeners`](crate::open_listeners), so no port is refused here.
 pub fn serve<R, I, W: Write, H: Write>(
     rt: &R,
     alloc: Global,
@@ -144,20 +143,16 @@ where
     I: Read + Drop + Send + 'static,
     requires port { IsAskedPort settings.now.port listeners.sessions.port }
     requires http { IsAskedIfAny settings.now.http (option_map (λ h. h.port) listeners.http) }
-    ensures serves { WritesSuch result
-        (λ outcome. ReportsPorts (port_lines listeners.sessions.port (option_map (λ h. h.port) listeners.http)) (Reports settings.now.cluster outcome.status))
-        (ServesSome settings.now.cluster (port_lines listeners.sessions.port (option_map (λ h. h.port) listeners.http)))
+    ensures reports { WritesSuch result (λ outcome. Reports settings.now.cluster outcome.status) (ReportsSome settings.now.cluster)
         (W.contents writer.old) (W.contents writer.new) (file_bytes file.old) (file_bytes file.new) }
     // What ran is what the settings say, and clients were served as they say.
     ensures run { IfOk result (λ outcome. IsRunOf settings.now.cluster outcome.run) }
-    ensures services { IfOk result (λ outcome. AreServicesOf settings.now outcome.services) }
-    // A server that isn't run to its end writes at most its ports.
-    ensures fault { IfErr result (EndsServer (port_lines listeners.sessions.port (option_map (λ h. h.port) listeners.http)) file.old file.new
-        (W.contents writer.old) (W.contents writer.new)) }
+    ensures services { IfOk result (λ outcome. AreServicesOf settings.now outcome.run.cluster outcome.services) }
+    // As of a cluster: a server that isn't run to its end writes nothing here.
+    ensures fault { IfErr result (EndsCluster file.old file.new (W.contents writer.old) (W.contents writer.new)) }
 {
     let Operator { status, input } = operator;
     let stop = new_stop(rt, alloc, &settings.cluster, input)?;
-    write_ports(alloc, listeners.sessions.port, &listeners.http, writer)?;
     let left = serve_cluster(rt, alloc, settings, listeners, status, &stop)?;
     let EndedServer {
         histories,

@@ -8,7 +8,7 @@ ghost use Rattle.cluster_service.specs.RunFaults.{IsLineFault, IsWriteFault};
 
 use crate::final_histories::FinalHistories;
 use crate::lines::{commit_lines, port_lines};
-use crate::ports::PortListener;
+use crate::ports::Listeners;
 use byte_streams::{ProgramFault, flush_output, write_output};
 use history_audit::{AuditFault, audited};
 use ledger_model::{Config, Ledger};
@@ -32,18 +32,18 @@ pub fn write_commits<W: Write>(
     Ok(())
 }
 
-/// Writes the line with the port, and one with the port of HTTP, if it is served; and flushes them, so that their reader has them at
-/// once.
+/// Writes the line with the port of the sessions, and one with the port of HTTP, if it is served; and flushes them, so that their reader has
+/// them before the cluster runs.
 pub fn write_ports<W: Write>(
     alloc: Global,
-    port: u16,
-    http: &Option<PortListener>,
+    listeners: &Listeners,
     writer: &mut W,
 ) -> Result<(), ProgramFault>
-    ensures written { Writes result (W.contents writer.old) (W.contents writer.new) (port_lines port (option_map (λ h. h.port) http.now)) }
+    ensures written { Writes result (W.contents writer.old) (W.contents writer.new)
+        (port_lines listeners.now.sessions.port (option_map (λ h. h.port) listeners.now.http)) }
     ensures fault { IfErr result IsWriteFault }
 {
-    let lines = port_lines(alloc, port, http)?;
+    let lines = port_lines(alloc, listeners.sessions.port, &listeners.http)?;
     write_output(writer, lines.as_bytes())?;
     flush_output(writer)?;
     Ok(())

@@ -1,5 +1,5 @@
 -- A running cluster as contracts see it.
-use Rattle.std.specs.Prelude.{◌≡◌, ℕ, ◌+◌, ◌≤◌, List, [], ◌∷◌, length, map}
+use Rattle.std.specs.Prelude.{◌≡◌, ℕ, ◌+◌, ◌≤◌, Bool, false, List, [], ◌∷◌, length, map}
 use Rattle.ledger_model.specs.declared.config.Config.{Config}
 use Rattle.std.specs.List.{All, range_with_len}
 use Rattle.ledger_model.specs.Rules.{Ring}
@@ -43,20 +43,33 @@ peers_from first [] = []
 peers_from first (inbox ∷ rest) = record { replica = first; inbox = inbox } ∷ peers_from (first + 1) rest
 
 -- a worker: its replica's number, the version of its cluster's frames, the number of rounds that it ends, the inbox that it takes from,
--- and the inboxes that it puts into
+-- and the inboxes that it puts into; the number of rounds that it has ended, the greatest height that it has opened, and whether it has met
+-- a full history
 pub record WorkerView : Type 0 where
   pub replica : ℕ
   pub version : Version
   pub rounds : ℕ
   pub inbox : InboxId
   pub peers : List PeerInbox
+  pub ended : ℕ
+  pub proposed : ℕ
+  pub is_full : Bool
 
--- the worker of a replica, which takes from the replica's own inbox and puts into all
+-- the worker of a replica as it begins, which takes from the replica's own inbox and puts into all
 abbrev pub worker_of : Version → ℕ → List PeerInbox → PeerInbox → WorkerView
-worker_of version rounds peers own =
-    record { replica = own.replica; version = version; rounds = rounds; inbox = own.inbox; peers = peers }
+worker_of version rounds peers own = record {
+  replica = own.replica;
+  version = version;
+  rounds = rounds;
+  inbox = own.inbox;
+  peers = peers;
+  ended = 0;
+  proposed = 0;
+  is_full = false;
+}
 
--- These are the workers of n replicas, by number. Each takes from its replica's own inbox, and puts into the inboxes of all replicas.
+-- These are the workers of n replicas as they begin, by number. Each takes from its replica's own inbox, and puts into the inboxes of all
+-- replicas.
 pub record AreWorkersOf (replicas : ℕ) (version : Version) (rounds : ℕ) (workers : List WorkerView) : Type 0 where
   pub inboxes : List InboxId
   pub count : length inboxes ≡ replicas

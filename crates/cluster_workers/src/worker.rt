@@ -1,5 +1,5 @@
 //! The worker of one replica: what it does in one pass of its loop, and the loop.
-ghost use Rattle.std.specs.Prelude.{◌≡◌, ◌≤◌, map, vec_len, IfOk, IfSome};
+ghost use Rattle.std.specs.Prelude.{◌≡◌, ◌≤◌, false, map, vec_len, IfOk, IfSome};
 ghost use Rattle.verify_cache.specs.Checks.{is_part_signed};
 
 use crate::gate::TurnGate;
@@ -67,6 +67,9 @@ impl<A: Application> Model for Worker<A> {
       rounds = w.rounds;
       inbox = w.receiver;
       peers = w.senders.items;
+      ended = w.ended;
+      proposed = w.proposed;
+      is_full = w.is_full;
     } };
 }
 
@@ -152,6 +155,9 @@ impl<A: Application> Worker<A> {
           rounds = rounds;
           inbox = receiver;
           peers = senders.items;
+          ended = 0;
+          proposed = 0;
+          is_full = false;
         } }
     {
         Worker {

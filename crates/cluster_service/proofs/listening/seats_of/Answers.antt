@@ -11,6 +11,8 @@ loop-reader-preserved g c =
     search rules in
     record {
       count = grind (arith, elements);
+      cluster = rw grown (All-push (λ s. s.targets.cluster.now ≡ c.args.cluster.now) c.loop-reader.seats.items _
+          c.loop-reader.invariant.cluster c.new-targets.ensures.cluster);
       budgets = rw grown (All-push (λ s. s.targets.budgets.now ≡ c.args.budgets.now) c.loop-reader.seats.items _
           c.loop-reader.invariant.budgets c.new-targets.ensures.budgets);
       readers = All-tail (λ (r : ReaderSeatView). r.board ≡ c.args.cluster.now.board) c.in-Some.reader (into_iter_items c.next.new.self)

@@ -61,9 +61,8 @@ loop-number-preserved g c =
     rw c.in-Some-next-2.ensures.cases.0 at was.1.2 in
     let is : worker ≡ worker_of version rounds peers (record { replica = number; inbox = inbox }) =
     c.new.ensures
-    ∙ ap (λ (k : ℕ). record { replica = k; version = version; rounds = rounds; inbox = inbox; peers = c.in-Some-next-3.senders.items })
-    (turn_taker ∙ own)
-    ∙ ap (λ (l : List PeerInbox). record { replica = number; version = version; rounds = rounds; inbox = inbox; peers = l }) all in
+    ∙ ap (λ (k : ℕ). worker_of version rounds c.in-Some-next-3.senders.items (record { replica = k; inbox = inbox })) (turn_taker ∙ own)
+    ∙ ap (λ (l : List PeerInbox). worker_of version rounds l (record { replica = number; inbox = inbox })) all in
     record {
       workers = (
         was.0,
