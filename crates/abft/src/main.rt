@@ -1,6 +1,7 @@
 //! The program `abft`: a Byzantine fault tolerant replicated ledger.
 #![tactic(auto)]
 
+use app_kinds::AnyKind;
 use byte_streams::{ProgramFault, Resource, require_open};
 use cluster_reports::{SharedStatus, Watcher, start_reporter};
 use cluster_service::{
@@ -91,7 +92,7 @@ where
     let ClusterOutcome {
         status: ended,
         run: _run,
-    } = cluster(rt, alloc, settings, operator, &mut output, &mut file)?;
+    } = cluster::<AnyKind, _, _, _, _>(rt, alloc, settings, operator, &mut output, &mut file)?;
     Ok(ended)
 }
 
@@ -126,7 +127,7 @@ where
         status: ended,
         run: _run,
         services: _services,
-    } = serve(
+    } = serve::<AnyKind, _, _, _, _>(
         rt,
         alloc,
         settings,
@@ -146,5 +147,5 @@ fn run_host(rt: &HostRuntime) -> io::Result<Outcome> {
     let mut reader = rt.reader();
     let mut writer = rt.stdout();
     let mut faults = rt.stderr();
-    Ok(run(rt, alloc, &words, &mut reader, &mut writer, &mut faults))
+    Ok(run::<AnyKind, _, _, _, _>(rt, alloc, &words, &mut reader, &mut writer, &mut faults))
 }

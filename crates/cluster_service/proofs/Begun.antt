@@ -1,5 +1,6 @@
 -- A replica to which a transaction was submitted, and to which nothing else happened.
-use Rattle.std.proofs.Common.{◌≡◌, ℕ, List, [], ◌∷◌, ◌++◌, refl, ap, ◌∙◌}
+use Rattle.std.proofs.Common.{◌≡◌, ◌<◌, ℕ, zero, suc, List, [], ◌∷◌, ◌++◌, refl, ap, ◌∙◌, map, arith}
+use Rattle.std.specs.List.{range_with_len}
 use Rattle.ledger_model.specs.declared.config.Config.{Config}
 use Rattle.ledger_model.specs.declared.event.Event.TheVariants as event
 use Rattle.ledger_model.specs.declared.reply.Reply.{Reply}
@@ -10,7 +11,9 @@ use Rattle.ledger_model.specs.Lawful.{Lawful, clock_at}
 use Rattle.locked_replica.specs.States.{StateView, RunsAlone, keys_in}
 use Rattle.replica_core.specs.Steps.{UsesLeaves}
 use Rattle.cluster_setup.specs.declared.cluster_seed.ClusterSeed.{ClusterSeed}
-use Rattle.cluster_service.specs.Replicas.{begun, submitted}
+use Rattle.cluster_setup.specs.Keys.{ring_of}
+use Rattle.cluster_workers.specs.RunningClusters.{first_ring}
+use Rattle.cluster_service.specs.Replicas.{all_begun, begun, submitted}
 
 -- the new replica is the old one with this entry more
 pub record Goes (old new : StateView) (tx : List ℕ) (answer : Reply) : Type 0 where
@@ -49,3 +52,11 @@ first_goes cluster tx id new (reply.RoundEnded r) goes = absurd goes.lawful
 first_goes cluster tx id new (reply.Executed r) goes = absurd goes.lawful
 first_goes cluster tx id new (reply.Queried r) goes = absurd goes.lawful
 first_goes cluster tx id new (reply.Retired r) goes = absurd goes.lawful
+
+-- the first of the replicas has the keys of the cluster
+pub first_ring_of : (cluster : ClusterSeed) (tx : List ℕ) → first_ring (all_begun cluster tx) ≡ ring_of cluster
+first_ring_of cluster tx = by cluster.config.replicas (omega (arith, cluster.config.enough))
+  where
+    by : (n : ℕ) → 0 < n → first_ring (map (λ r. begun cluster (submitted cluster tx r) r) (range_with_len 0 n)) ≡ ring_of cluster
+    by zero low = absurd (omega (arith, low))
+    by (suc n) low = refl

@@ -33,7 +33,7 @@ module _ (A R : RattleType) (g : Ghosts A.Denot) where
     server_send app runtime = view_send (server_inside.the_row a b A R g) _ _ _ _
         (recorded_send (server_inside.the_field a b A R g).row _ _ (server_inside.the_type a b A R g).to_one
         (struct_send (shape (server_inside.the_type a b A R g))
-        (search (seat_field_send, budget.the_sync, door.the_sync, sendable, crosses) depth 16)))
+        (search (seat_field_send, cluster_sync, budget.the_sync, door.the_sync, sendable, crosses) depth 16)))
 
   module _ (a r f d s : NamedLft) where
     pub connection_send : IsSend A → IsSync R → IsSend (connection.the_row a r f d s A R g)

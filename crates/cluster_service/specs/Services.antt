@@ -5,11 +5,10 @@ use Rattle.cluster_setup.specs.declared.cluster_settings.ClusterSettings.{Cluste
 use Rattle.cluster_setup.specs.declared.cluster_settings.ServeSettings.{ServeSettings}
 use Rattle.cluster_service.specs.declared.protocol.Protocol.{Protocol}
 use Rattle.cluster_service.specs.declared.protocol.Protocol.TheVariants as protocol
-use Rattle.cluster_service.specs.Ports.{IsAskedIfAny, IsAskedPort}
 use Rattle.cluster_service.specs.Replicas.{all_begun}
 
--- The workers that ran are those of all replicas of the cluster, and each ended as many rounds as the settings say; the clock had their
--- base time; and each replica began with their transaction in its pool.
+-- The workers that ran are those of all replicas of the cluster; as they began, each had ended no round, and was to end as many as the
+-- settings say. The clock had the settings' base time, and each replica began with their transaction in its pool.
 pub record IsRunOf (s : ClusterSettings) (run : EndedRunView) : Type 0 where
   pub workers : AreWorkersOf s.cluster.config.replicas s.cluster.config.frames s.rounds run.workers
   pub base_ms : run.base_ms ≡ s.base_ms
@@ -42,9 +41,3 @@ services_at s cluster port http =
       sessions = service_at protocol.Sessions cluster s.sessions entries port;
       http = option_map (service_at protocol.Http cluster 1024 entries) http;
     }
-
--- These are the services that the settings ask for, at ports that they ask for. The replicas that clients asked are those of this cluster.
-pub record AreServicesOf (s : ServeSettings) (cluster : RunningClusterView) (services : ServicesView) : Type 0 where
-  pub port : IsAskedPort s.port services.sessions.port
-  pub http : IsAskedIfAny s.http (option_map (λ h. h.port) services.http)
-  pub are : services ≡ services_at s cluster services.sessions.port (option_map (λ h. h.port) services.http)

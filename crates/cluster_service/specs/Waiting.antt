@@ -7,11 +7,11 @@ use Rattle.cluster_service.specs.Inquiries.{IsUndelivered, SeesOwn, SeesStranger
 use Rattle.cluster_service.specs.declared.waiting.LookOutcome.{LookOutcome}
 use Rattle.cluster_service.specs.declared.waiting.LookOutcome.TheVariants as look
 
--- the state has this number of entries
+-- the state's history has this number of entries
 abbrev pub HasEntries : ℕ → StateView → Type 0
 HasEntries entries state = entries ≡ length state.entries
 
--- in the state that was seen, from the entry with this index on
+-- what a look reports holds of the state that was seen, from the entry with this index on
 abbrev pub Finds : RunningClusterView → ℕ → Option StateView → List ℕ → ℕ → LookOutcome → Type 0
 Finds cluster r seen tx next (look.Block height code) = SeesOwn cluster r seen (IsDelivery tx next height code)
 Finds cluster r seen tx next (look.Nothing entries) =

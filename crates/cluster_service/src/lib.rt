@@ -6,11 +6,13 @@
 //! board. Each connection is served in a thread of its own, so a client that disappears or sends no request harms no other session. All
 //! clients together use no more of a replica's history than the settings say.
 //!
-//! What ran is what the settings say: [`EndedCluster`] and [`EndedServer`] keep which workers, clock and sessions threads were given, and
-//! their contracts compare that with the settings.
+//! The caller chooses the type of the replicas' application (`Opening` of crate `app_kinds`), which answers as the configuration's kind does.
 //!
-//! Four things are tested, not proved: that the workers run concurrently, that a submit, a query or a block is answered by the replica
-//! with the number that was asked for, that clients share one count of entries, and what TCP delivers.
+//! What ran is what the settings say: [`EndedCluster`] and [`EndedServer`] keep which cluster, workers, clock and services threads were
+//! given, and their contracts compare that with the settings.
+//!
+//! `docs/PROMISES.md` lists what is only tested: among others that the workers run concurrently, that a submit, a query or a block is
+//! answered by the replica with the number that was asked for, that clients share one count of entries, and what TCP delivers.
 #![tactic(auto)]
 
 mod asking;

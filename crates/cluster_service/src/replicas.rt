@@ -4,7 +4,8 @@ ghost use Rattle.cluster_setup.specs.Keys.{ring_of, secret_of, unused};
 ghost use Rattle.byte_streams.specs.Faults.{IsMemoryOrRandom};
 ghost use Rattle.cluster_service.specs.Replicas.{all_begun, begun, submitted};
 
-use app_kinds::AnyKind;
+use abci::Application;
+use app_kinds::Opening;
 use byte_streams::{ProgramFault, new_random_key};
 use bytes::Bytes;
 use cluster_setup::{ClusterKeys, ClusterSeed, all_keys_in_parallel};
@@ -25,10 +26,10 @@ fn randoms<R: RandomSource>(source: &R) -> Result<[RandomState; 2], ProgramFault
 }
 
 /// Submits the transaction to a replica to which nothing has happened.
-fn submit(
+fn submit<A: Application>(
     alloc: Global,
     cluster: &ClusterSeed,
-    state: &mut State<AnyKind>,
+    state: &mut State<A>,
     tx: &Tx,
 ) -> Result<(), ProgramFault>
     requires fresh { state.old ≡ begun cluster.now [] state.old.id }
@@ -45,14 +46,14 @@ fn submit(
 }
 
 /// A replica with an empty pool.
-fn empty_state<R: RandomSource>(
+fn empty_state<A: Opening, R: RandomSource>(
     source: &R,
     alloc: Global,
     cluster: &ClusterSeed,
     id: u8,
     signer: Signer,
     ring: &KeyRing,
-) -> Result<State<AnyKind>, ProgramFault>
+) -> Result<State<A>, ProgramFault>
     requires below { id < cluster.now.config.replicas }
     requires signer { signer ≡ unused (secret_of cluster.now id) }
     requires ring { ring.now ≡ ring_of cluster.now }
@@ -60,13 +61,13 @@ fn empty_state<R: RandomSource>(
     ensures fault { IfErr result IsMemoryOrRandom }
 {
     let randoms = randoms(source)?;
-    let app = AnyKind::new(alloc, cluster.config.kind);
+    let app = A::opening(alloc, cluster.config.kind);
     let id = ReplicaId::new(id);
     Ok(new_replica(alloc, cluster, id, signer, ring, app, randoms)?)
 }
 
 /// A replica whose pool has the transaction.
-fn new_state<R: RandomSource>(
+fn new_state<A: Opening, R: RandomSource>(
     source: &R,
     alloc: Global,
     cluster: &ClusterSeed,
@@ -74,32 +75,32 @@ fn new_state<R: RandomSource>(
     id: u8,
     signer: Signer,
     ring: &KeyRing,
-) -> Result<State<AnyKind>, ProgramFault>
+) -> Result<State<A>, ProgramFault>
     requires below { id < cluster.now.config.replicas }
     requires signer { signer ≡ unused (secret_of cluster.now id) }
     requires ring { ring.now ≡ ring_of cluster.now }
     ensures begun { IfOk result (λ state. state ≡ begun cluster.now (submitted cluster.now tx.now id) id) }
     ensures fault { IfErr result IsMemoryOrRandom }
 {
-    let mut state = empty_state(source, alloc, cluster, id, signer, ring)?;
+    let mut state = empty_state::<A, R>(source, alloc, cluster, id, signer, ring)?;
     submit(alloc, cluster, &mut state, tx)?;
     Ok(state)
 }
 
 /// The replicas of a cluster at its start, by number, and its public keys.
-pub struct NewReplicas {
-    pub states: Vec<State<AnyKind>>,
+pub struct NewReplicas<A: Application> {
+    pub states: Vec<State<A>>,
     pub ring: KeyRing,
 }
 
 /// The replicas of a cluster, by number. The transaction was submitted to each. Each replica's tree is computed once, in parallel
 /// with the others. The random bytes are the keys of hashes. An `Err` is an allocation failure, or that there were no random bytes.
-pub fn new_replicas<R: RandomSource + Threads + Sync>(
+pub fn new_replicas<A: Opening, R: RandomSource + Threads + Sync>(
     source: &R,
     alloc: Global,
     cluster: &ClusterSeed,
     tx: &Tx,
-) -> Result<NewReplicas, ProgramFault>
+) -> Result<NewReplicas<A>, ProgramFault>
     ensures count { IfOk result (λ all. vec_len all.states ≡ cluster.now.config.replicas) }
     ensures replicas { IfOk result (λ all. all.states.items ≡ all_begun cluster.now tx.now) }
     ensures ring { IfOk result (λ all. all.ring ≡ ring_of cluster.now) }

@@ -7,7 +7,8 @@ ghost use Rattle.cluster_service.specs.Services.{IsRunOf};
 
 use crate::final_histories::{FinalHistories, take_all};
 use crate::replicas::{NewReplicas, new_replicas};
-use app_kinds::AnyKind;
+use abci::Application;
+use app_kinds::Opening;
 use byte_streams::{ProgramFault, Resource};
 use cluster_reports::{Notice, ReportingGate, SharedStatus};
 use cluster_setup::ClusterSettings;
@@ -35,15 +36,15 @@ pub(crate) fn new_gate<'a, R: Wait>(
 
 /// A cluster that is to run: its settings, its workers, the gate that stores how they stand, and what can ask them to stop. Contracts see it
 /// as the run that it will have been.
-pub(crate) struct PreparedRun<'a, R: Wait> {
+pub(crate) struct PreparedRun<'a, A: Application, R: Wait> {
     pub(crate) settings: &'a ClusterSettings,
-    pub(crate) cluster: &'a RunningCluster<AnyKind>,
-    pub(crate) workers: Vec<Worker<AnyKind>>,
+    pub(crate) cluster: &'a RunningCluster<A>,
+    pub(crate) workers: Vec<Worker<A>>,
     pub(crate) gate: &'a ReportingGate<'a, R>,
     pub(crate) stop: &'a Stop,
 }
 
-impl<'a, R: Wait> Model for PreparedRun<'a, R> {
+impl<'a, A: Application, R: Wait> Model for PreparedRun<'a, A, R> {
     ghost use Rattle.cluster_workers.specs.RunningClusters.{EndedRunView};
 
     ghost Value = { EndedRunView };
@@ -52,7 +53,7 @@ impl<'a, R: Wait> Model for PreparedRun<'a, R> {
 }
 
 // An own `Drop` keeps proofs short: an owner drops it by one call. See docs/WORKING.md.
-impl<R: Wait> Drop for PreparedRun<'_, R> {
+impl<A: Application, R: Wait> Drop for PreparedRun<'_, A, R> {
     fn drop(self) {
         let PreparedRun {
             settings: _settings,
@@ -64,9 +65,9 @@ impl<R: Wait> Drop for PreparedRun<'_, R> {
     }
 }
 
-impl<R: Clock + Threads + Wait + Sync> PreparedRun<'_, R> {
+impl<A: Application + Send, R: Clock + Threads + Wait + Sync> PreparedRun<'_, A, R> {
     /// Runs the workers until their rounds are over, or the cluster is asked to stop.
-    pub(crate) fn run(self, rt: &R) -> Result<EndedRun<AnyKind>, ProgramFault>
+    pub(crate) fn run(self, rt: &R) -> Result<EndedRun<A>, ProgramFault>
         ensures ran { IfOk result (λ ran. ran ≡ self.entry) }
         ensures fault { IfErr result IsRunFault }
     {
@@ -89,19 +90,22 @@ impl<R: Clock + Threads + Wait + Sync> PreparedRun<'_, R> {
 }
 
 /// A cluster that has run to its end: what its replicas have, and what ran.
-pub struct EndedCluster {
+pub struct EndedCluster<A: Application> {
     pub histories: FinalHistories,
-    pub run: EndedRun<AnyKind>,
+    pub run: EndedRun<A>,
 }
 
 /// Makes a cluster and runs it. Returns what its replicas have at the end.
-fn run_through<'a, R: Clock + RandomSource + Threads + Wait + Sync>(
+fn run_through<'a, A, R>(
     rt: &R,
     alloc: Global,
     settings: &'a ClusterSettings,
     gate: &'a ReportingGate<'a, R>,
     stop: &'a Stop,
-) -> Result<EndedCluster, ProgramFault>
+) -> Result<EndedCluster<A>, ProgramFault>
+where
+    A: Opening + Send,
+    R: Clock + RandomSource + Threads + Wait + Sync,
     ensures each { IfOk result (λ end. vec_len end.histories.heights ≡ settings.now.cluster.config.replicas) }
     ensures taken { IfOk result (λ end. AreTaken settings.now.cluster.config end.histories.ring 0 end.histories.histories.items end.histories.heights.items) }
     ensures ring { IfOk result (λ end. end.histories.ring ≡ ring_of settings.now.cluster) }
@@ -127,13 +131,16 @@ fn run_through<'a, R: Clock + RandomSource + Threads + Wait + Sync>(
 
 /// Runs a cluster until its rounds are over, or it is asked to stop, and then takes the history of each replica, by number. How it
 /// stands is stored in `status`.
-pub fn run_cluster<R: Clock + RandomSource + Threads + Wait + Sync>(
+pub fn run_cluster<A, R>(
     rt: &R,
     alloc: Global,
     settings: &ClusterSettings,
     status: &SharedStatus,
     stop: &Stop,
-) -> Result<EndedCluster, ProgramFault>
+) -> Result<EndedCluster<A>, ProgramFault>
+where
+    A: Opening + Send,
+    R: Clock + RandomSource + Threads + Wait + Sync,
     ensures each { IfOk result (λ end. vec_len end.histories.heights ≡ settings.now.cluster.config.replicas) }
     ensures taken { IfOk result (λ end. AreTaken settings.now.cluster.config end.histories.ring 0 end.histories.histories.items end.histories.heights.items) }
     ensures ring { IfOk result (λ end. end.histories.ring ≡ ring_of settings.now.cluster) }

@@ -2,10 +2,9 @@
 ghost use Rattle.std.specs.Prelude.{◌≡◌, ◌+◌, ◌<◌, ◌≤◌, ℕ, Some, option_map, slice_get, vec_len, IfErr, IfNone, IfOk, IfSome};
 ghost use Rattle.cluster_setup.specs.Keys.{ring_of};
 ghost use Rattle.commit_board.specs.Seats.{new_reader};
-ghost use Rattle.cluster_service.specs.Ports.{IsAskedIfAny, IsAskedPort};
 ghost use Rattle.cluster_service.specs.Reporting.{AreTaken};
 ghost use Rattle.cluster_service.specs.RunFaults.{IsRunFault};
-ghost use Rattle.cluster_service.specs.Services.{AreServicesOf, IsRunOf, services_at};
+ghost use Rattle.cluster_service.specs.Services.{IsRunOf, services_at};
 ghost use denote.Param.Send.{IsSend, IsSync};
 
 use crate::budgets::new_budgets;
@@ -17,7 +16,8 @@ use crate::protocol::Protocol;
 use crate::replicas::{NewReplicas, new_replicas};
 use crate::running::{PreparedRun, end_of, new_gate};
 use crate::servers::{EndedServices, Server, ServerEnd, Servers, http_server};
-use app_kinds::AnyKind;
+use abci::Application;
+use app_kinds::Opening;
 use byte_streams::ProgramFault;
 use cluster_reports::{Notice, ReportingGate, SharedStatus};
 use cluster_setup::ServeSettings;
@@ -35,9 +35,9 @@ use std::time::Clock;
 const HTTP_SEATS: u32 = 1024;
 
 /// What ran, and how clients were served meanwhile.
-struct Served {
-    run: EndedRun<AnyKind>,
-    services: EndedServices<AnyKind>,
+struct Served<A: Application> {
+    run: EndedRun<A>,
+    services: EndedServices<A>,
 }
 
 /// Ends a server, if there is one, and waits until it has ended.
@@ -53,13 +53,14 @@ fn end_if_any<R: Clock + Net<Listener = TcpListener, Stream = TcpStream> + Wait>
 
 /// Runs the workers of a cluster, and then waits for the end of the sessions, if that is watched: because something is to be done then, or
 /// because the cluster may be asked to stop.
-fn run_workers<R>(
+fn run_workers<A, R>(
     rt: &R,
-    prepared: PreparedRun<'_, R>,
+    prepared: PreparedRun<'_, A, R>,
     sessions: ServerEnd<'_>,
     is_watched: bool,
-) -> Result<EndedRun<AnyKind>, ProgramFault>
+) -> Result<EndedRun<A>, ProgramFault>
 where
+    A: Application + Send,
     R: Clock + Net<Listener = TcpListener, Stream = TcpStream> + Threads + Wait + Sync,
     ensures run { IfOk result (λ ran. ran ≡ prepared.entry) }
     ensures fault { IfErr result IsRunFault }
@@ -77,13 +78,14 @@ where
 }
 
 /// Runs the workers of a cluster in parallel with its servers. Returns once all have ended: HTTP ends after the workers and the sessions.
-fn run_beside<'a, R>(
+fn run_beside<'a, A, R>(
     rt: &R,
     alloc: Global,
-    prepared: PreparedRun<'_, R>,
-    servers: Servers<'a, '_, AnyKind, R>,
-) -> Result<Served, ProgramFault>
+    prepared: PreparedRun<'_, A, R>,
+    servers: Servers<'a, '_, A, R>,
+) -> Result<Served<A>, ProgramFault>
 where
+    A: Application + Send,
     R: Clock + Net<Listener = TcpListener, Stream = TcpStream> + Threads + Wait + Sync,
     ensures run { IfOk result (λ served. served.run ≡ prepared.entry) }
     ensures services { IfOk result (λ served. served.services ≡ record { sessions = servers.entry.sessions; http = servers.entry.http }) }
@@ -99,7 +101,8 @@ where
     let done = thread::scope(
         thread::scope_env(),
         rt,
-        move |scope| -> Result<EndedRun<AnyKind>, ProgramFault>
+        move |scope| -> Result<EndedRun<A>, ProgramFault>
+            requires app { IsSend A.row }
             ensures run { IfOk result (λ ran. ran ≡ prepared.entry) }
             ensures fault { IfErr result IsRunFault }
         {
@@ -128,15 +131,16 @@ where
 
 /// Runs the workers of a cluster in parallel with a server of sessions, which has the first readers of the board, and with one of HTTP,
 /// which has the others. All clients share the given number of entries of each history.
-fn serve_beside<R>(
+fn serve_beside<A, R>(
     rt: &R,
     alloc: Global,
     settings: &ServeSettings,
-    prepared: PreparedRun<'_, R>,
+    prepared: PreparedRun<'_, A, R>,
     mut readers: Vec<ReaderSeat>,
     listeners: Listeners,
-) -> Result<Served, ProgramFault>
+) -> Result<Served<A>, ProgramFault>
 where
+    A: Application + Send,
     R: Clock + Net<Listener = TcpListener, Stream = TcpStream> + Threads + Wait + Sync,
     requires none { IfNone listeners.http (vec_len readers ≡ settings.now.sessions) }
     requires http { IfSome listeners.http (λ _. vec_len readers ≡ settings.now.sessions + 1024) }
@@ -178,35 +182,35 @@ fn seat_count(sessions: u32, http: &Option<PortListener>) -> u32
 }
 
 /// A server that has run to its end: what its replicas have, what ran, and how its clients were served.
-pub struct EndedServer {
+pub struct EndedServer<A: Application> {
     pub histories: FinalHistories,
-    pub run: EndedRun<AnyKind>,
-    pub services: EndedServices<AnyKind>,
+    pub run: EndedRun<A>,
+    pub services: EndedServices<A>,
 }
 
 /// Makes a cluster, runs it and serves its clients. Returns what its replicas have at the end.
-fn serve_through<'a, R>(
+fn serve_through<'a, A, R>(
     rt: &R,
     alloc: Global,
     settings: &'a ServeSettings,
     gate: &'a ReportingGate<'a, R>,
     listeners: Listeners,
     stop: &'a Stop,
-) -> Result<EndedServer, ProgramFault>
+) -> Result<EndedServer<A>, ProgramFault>
 where
+    A: Opening + Send,
     R: Clock
         + RandomSource
         + Threads
         + Wait
         + Sync
         + Net<Listener = TcpListener, Stream = TcpStream>,
-    requires port { IsAskedPort settings.now.port listeners.sessions.port }
-    requires http { IsAskedIfAny settings.now.http (option_map (λ h. h.port) listeners.http) }
     ensures each { IfOk result (λ end. vec_len end.histories.heights ≡ settings.now.cluster.cluster.config.replicas) }
     ensures taken { IfOk result (λ end. AreTaken settings.now.cluster.cluster.config end.histories.ring 0 end.histories.histories.items end.histories.heights.items) }
     ensures ring { IfOk result (λ end. end.histories.ring ≡ ring_of settings.now.cluster.cluster) }
     ensures run { IfOk result (λ end. IsRunOf settings.now.cluster end.run) }
-    ensures services { IfOk result (λ end. AreServicesOf settings.now end.run.cluster end.services) }
+    ensures services { IfOk result (λ end. end.services
+        ≡ services_at settings.now end.run.cluster listeners.sessions.port (option_map (λ h. h.port) listeners.http)) }
     ensures fault { IfErr result IsRunFault }
 {
     let run = &settings.cluster;
@@ -237,30 +241,30 @@ where
 /// Like [`run_cluster`](crate::run_cluster), and serves the clients of the listeners. Returns when the rounds are over and as many
 /// connections as the settings say have ended, or when the cluster was asked to stop. Closes the listener after the last connection. Until
 /// then it serves HTTP, too, if there is a listener for it.
-pub fn serve_cluster<R>(
+pub fn serve_cluster<A, R>(
     rt: &R,
     alloc: Global,
     settings: &ServeSettings,
     listeners: Listeners,
     status: &SharedStatus,
     stop: &Stop,
-) -> Result<EndedServer, ProgramFault>
+) -> Result<EndedServer<A>, ProgramFault>
 where
+    A: Opening + Send,
     R: Clock
         + Net<Listener = TcpListener, Stream = TcpStream>
         + RandomSource
         + Sync
         + Threads
         + Wait,
-    requires port { IsAskedPort settings.now.port listeners.sessions.port }
-    requires http { IsAskedIfAny settings.now.http (option_map (λ h. h.port) listeners.http) }
     ensures each { IfOk result (λ end. vec_len end.histories.heights ≡ settings.now.cluster.cluster.config.replicas) }
     ensures taken { IfOk result (λ end. AreTaken settings.now.cluster.cluster.config end.histories.ring 0 end.histories.histories.items end.histories.heights.items) }
     ensures ring { IfOk result (λ end. end.histories.ring ≡ ring_of settings.now.cluster.cluster) }
     // What ran is what the settings say.
     ensures run { IfOk result (λ end. IsRunOf settings.now.cluster end.run) }
-    // Clients were served as the settings say.
-    ensures services { IfOk result (λ end. AreServicesOf settings.now end.run.cluster end.services) }
+    // Clients of the cluster that ran were served as the settings say, at the ports of the listeners.
+    ensures services { IfOk result (λ end. end.services
+        ≡ services_at settings.now end.run.cluster listeners.sessions.port (option_map (λ h. h.port) listeners.http)) }
     ensures fault { IfErr result IsRunFault }
 {
     let gate = new_gate(rt, &settings.cluster, status);

@@ -3,9 +3,8 @@ ghost use Rattle.std.specs.Prelude.{◌≡◌, length, option_map, IfErr, IfOk};
 ghost use Rattle.cluster_setup.specs.Keys.{ring_of};
 ghost use Rattle.cluster_service.specs.HistoriesFiles.{file_bytes};
 ghost use Rattle.cluster_service.specs.Reporting.{AreTaken, Reports, ReportsEnd, ReportsSome, WritesSuch};
-ghost use Rattle.cluster_service.specs.Ports.{IsAskedIfAny, IsAskedPort};
 ghost use Rattle.cluster_service.specs.RunFaults.{EndsCluster, IsReportFault, IsRunFault};
-ghost use Rattle.cluster_service.specs.Services.{AreServicesOf, IsRunOf};
+ghost use Rattle.cluster_service.specs.Services.{IsRunOf, services_at};
 
 use crate::final_histories::FinalHistories;
 use crate::ports::Listeners;
@@ -15,7 +14,8 @@ use crate::servers::EndedServices;
 use crate::serving::{EndedServer, serve_cluster};
 use crate::stop_at_end;
 use crate::writing::write_lines;
-use app_kinds::AnyKind;
+use abci::Application;
+use app_kinds::Opening;
 use byte_streams::ProgramFault;
 use cluster_reports::SharedStatus;
 use cluster_setup::{ClusterSettings, ServeSettings};
@@ -56,7 +56,7 @@ where
 
 /// Writes a line for each replica, and what the audit of their histories finds. Then, whatever became of the lines, writes the histories
 /// to the file, if there is one. Returns the exit status. If both fail, the fault is that of the file, which lacks histories.
-fn report<S: RandomSource, W: Write, H: Write>(
+fn report<A: Opening, S: RandomSource, W: Write, H: Write>(
     source: &S,
     alloc: Global,
     settings: &ClusterSettings,
@@ -71,29 +71,30 @@ fn report<S: RandomSource, W: Write, H: Write>(
         (W.contents writer.old) (W.contents writer.new) (file_bytes file.old) (file_bytes file.new) }
     ensures fault { IfErr result (IsReportFault file.old) }
 {
-    let written = write_lines(source, alloc, &settings.cluster.config, left, writer);
+    let written = write_lines::<A, S, W>(source, alloc, &settings.cluster.config, left, writer);
     save_histories(alloc, &left.histories, file)?;
     written
 }
 
 /// What `abft cluster` ends with: the exit status, and what ran.
-pub struct ClusterOutcome {
+pub struct ClusterOutcome<A: Application> {
     pub status: u8,
-    pub run: EndedRun<AnyKind>,
+    pub run: EndedRun<A>,
 }
 
 /// `abft cluster`: runs a cluster, and writes a line for each replica with the number of blocks that it committed, and then what the
 /// audit of their histories finds. Then, whatever became of the lines, it writes the histories to the file, if there is one. How it
 /// stands is stored in the operator's status. The exit status is 1 if the audit finds a fault.
-pub fn cluster<R, I, W: Write, H: Write>(
+pub fn cluster<A, R, I, W: Write, H: Write>(
     rt: &R,
     alloc: Global,
     settings: &ClusterSettings,
     operator: Operator<'_, I>,
     writer: &mut W,
     file: &mut Option<HistoriesFile<H>>,
-) -> Result<ClusterOutcome, ProgramFault>
+) -> Result<ClusterOutcome<A>, ProgramFault>
 where
+    A: Opening + Send,
     R: Clock + Copy + RandomSource + Send + Sync + Threads + Wait + 'static,
     I: Read + Drop + Send + 'static,
     ensures reports { WritesSuch result (λ outcome. Reports settings.now outcome.status) (ReportsSome settings.now)
@@ -106,22 +107,22 @@ where
 {
     let Operator { status, input } = operator;
     let stop = new_stop(rt, alloc, settings, input)?;
-    let left = run_cluster(rt, alloc, settings, status, &stop)?;
+    let left = run_cluster::<A, R>(rt, alloc, settings, status, &stop)?;
     let EndedCluster { histories, run } = left;
-    let ended = report(rt, alloc, settings, &histories, writer, file)?;
+    let ended = report::<A, R, W, H>(rt, alloc, settings, &histories, writer, file)?;
     Ok(ClusterOutcome { status: ended, run })
 }
 
 /// What `abft serve` ends with: the exit status, what ran, and how clients were served.
-pub struct ServerOutcome {
+pub struct ServerOutcome<A: Application> {
     pub status: u8,
-    pub run: EndedRun<AnyKind>,
-    pub services: EndedServices<AnyKind>,
+    pub run: EndedRun<A>,
+    pub services: EndedServices<A>,
 }
 
 /// `abft serve`, once [`write_ports`](crate::write_ports) has written where it listens: runs a cluster and serves clients in parallel; at
 /// the end writes what [`cluster`] writes. The listeners come from [`open_listeners`](crate::open_listeners), so no port is refused here.
-pub fn serve<R, I, W: Write, H: Write>(
+pub fn serve<A, R, I, W: Write, H: Write>(
     rt: &R,
     alloc: Global,
     settings: &ServeSettings,
@@ -129,8 +130,9 @@ pub fn serve<R, I, W: Write, H: Write>(
     operator: Operator<'_, I>,
     writer: &mut W,
     file: &mut Option<HistoriesFile<H>>,
-) -> Result<ServerOutcome, ProgramFault>
+) -> Result<ServerOutcome<A>, ProgramFault>
 where
+    A: Opening + Send,
     R: Clock
         + Copy
         + Net<Listener = TcpListener, Stream = TcpStream>
@@ -141,25 +143,24 @@ where
         + Wait
         + 'static,
     I: Read + Drop + Send + 'static,
-    requires port { IsAskedPort settings.now.port listeners.sessions.port }
-    requires http { IsAskedIfAny settings.now.http (option_map (λ h. h.port) listeners.http) }
     ensures reports { WritesSuch result (λ outcome. Reports settings.now.cluster outcome.status) (ReportsSome settings.now.cluster)
         (W.contents writer.old) (W.contents writer.new) (file_bytes file.old) (file_bytes file.new) }
-    // What ran is what the settings say, and clients were served as they say.
+    // What ran is what the settings say. Clients of the cluster that ran were served as the settings say, at the ports of the listeners.
     ensures run { IfOk result (λ outcome. IsRunOf settings.now.cluster outcome.run) }
-    ensures services { IfOk result (λ outcome. AreServicesOf settings.now outcome.run.cluster outcome.services) }
-    // As of a cluster: a server that isn't run to its end writes nothing here.
+    ensures services { IfOk result (λ outcome. outcome.services
+        ≡ services_at settings.now outcome.run.cluster listeners.sessions.port (option_map (λ h. h.port) listeners.http)) }
+    // A server that isn't run to its end writes nothing but the ports that were written before.
     ensures fault { IfErr result (EndsCluster file.old file.new (W.contents writer.old) (W.contents writer.new)) }
 {
     let Operator { status, input } = operator;
     let stop = new_stop(rt, alloc, &settings.cluster, input)?;
-    let left = serve_cluster(rt, alloc, settings, listeners, status, &stop)?;
+    let left = serve_cluster::<A, R>(rt, alloc, settings, listeners, status, &stop)?;
     let EndedServer {
         histories,
         run,
         services,
     } = left;
-    let ended = report(rt, alloc, &settings.cluster, &histories, writer, file)?;
+    let ended = report::<A, R, W, H>(rt, alloc, &settings.cluster, &histories, writer, file)?;
     Ok(ServerOutcome {
         status: ended,
         run,

@@ -9,6 +9,7 @@ ghost use Rattle.cluster_service.specs.RunFaults.{IsLineFault, IsWriteFault};
 use crate::final_histories::FinalHistories;
 use crate::lines::{commit_lines, port_lines};
 use crate::ports::Listeners;
+use app_kinds::Opening;
 use byte_streams::{ProgramFault, flush_output, write_output};
 use history_audit::{AuditFault, audited};
 use ledger_model::{Config, Ledger};
@@ -66,7 +67,7 @@ fn write_finding<W: Write>(
 }
 
 /// Writes a line for each replica, and then what the audit of their histories finds. Returns the exit status.
-pub(crate) fn write_lines<S: RandomSource, W: Write>(
+pub(crate) fn write_lines<A: Opening, S: RandomSource, W: Write>(
     source: &S,
     alloc: Global,
     config: &Config,
@@ -78,7 +79,7 @@ pub(crate) fn write_lines<S: RandomSource, W: Write>(
     ensures fault { IfErr result IsLineFault }
 {
     write_commits(alloc, &left.heights, writer)?;
-    let finding = audited(source, alloc, config, &left.ring, &left.histories)?;
+    let finding = audited::<A, S>(source, alloc, config, &left.ring, &left.histories)?;
     write_finding(alloc, &finding, writer)?;
     Ok(finding_status(&finding))
 }

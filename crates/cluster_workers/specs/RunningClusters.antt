@@ -42,9 +42,9 @@ abbrev pub peers_from : ℕ → List InboxId → List PeerInbox
 peers_from first [] = []
 peers_from first (inbox ∷ rest) = record { replica = first; inbox = inbox } ∷ peers_from (first + 1) rest
 
--- a worker: its replica's number, the version of its cluster's frames, the number of rounds that it ends, the inbox that it takes from,
--- and the inboxes that it puts into; the number of rounds that it has ended, the greatest height that it has opened, and whether it has met
--- a full history
+-- a worker: its replica's number, the version of its cluster's frames, the number of rounds that it is to end, the inbox that it takes
+-- from, and the inboxes that it puts into; the number of rounds that it has ended, the greatest height that it has proposed, and whether its
+-- replica's history is full
 pub record WorkerView : Type 0 where
   pub replica : ℕ
   pub version : Version
@@ -75,8 +75,8 @@ pub record AreWorkersOf (replicas : ℕ) (version : Version) (rounds : ℕ) (wor
   pub count : length inboxes ≡ replicas
   pub are : workers ≡ map (worker_of version rounds (peers_from 0 inboxes)) (peers_from 0 inboxes)
 
--- a cluster whose workers ran in threads of their own, until all had ended: which cluster, which workers, and the base time of the clock
--- that ended their rounds
+-- a cluster whose workers ran in threads of their own, until all had ended: which cluster, its workers as they began, and the base time of
+-- the clock that ended their rounds
 pub record EndedRunView : Type 0 where
   pub cluster : RunningClusterView
   pub workers : List WorkerView

@@ -13,7 +13,6 @@ use Rattle.clap.specs.declared.parser.matches.ValueSource.TheVariants.{CommandLi
 use Rattle.ledger_model.specs.declared.config.AppKind.{AppKind}
 use Rattle.ledger_model.specs.Replies.{check_reply}
 use Rattle.ledger_model.specs.Numbers.{kind_number, version_number}
-use Rattle.ledger_model.specs.declared.version.Version.{Version}
 use Rattle.lm_ots.specs.Parameters.{bits_of, levels_of}
 use Rattle.log.specs.Level.{parse_filter}
 use Rattle.log.specs.declared.level.LevelFilter.{LevelFilter}

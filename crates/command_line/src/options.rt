@@ -16,8 +16,8 @@ ghost use Rattle.lm_ots.specs.declared.params.Width.{Width};
 ghost use Rattle.lm_ots.specs.declared.params.TreeHeight.{TreeHeight};
 
 use crate::usage_fault::UsageFault;
-use abci::{Application, CheckKind};
-use app_kinds::AnyKind;
+use abci::CheckKind;
+use app_kinds::Opening;
 use clap::ArgMatches;
 use clap::parser::ValueSource;
 use cluster_setup::{ClusterSeed, What};
@@ -138,14 +138,14 @@ pub(crate) fn transaction<'a>(
 }
 
 /// The code that an application in its opening state returns for a transaction.
-fn check_code(alloc: Global, kind: AppKind, tx: &Tx) -> u32
+fn check_code<A: Opening>(alloc: Global, kind: AppKind, tx: &Tx) -> u32
     ensures { result ≡ check_reply kind [] tx.now }
 {
-    AnyKind::new(alloc, kind).check_tx(tx, CheckKind::New)
+    A::opening(alloc, kind).check_tx(tx, CheckKind::New)
 }
 
 /// An option that is one transaction, which an application in its opening state accepts.
-pub(crate) fn accepted_transaction<'a>(
+pub(crate) fn accepted_transaction<'a, A: Opening>(
     alloc: Global,
     matches: &ArgMatches<'a>,
     name: &'static str,
@@ -158,7 +158,7 @@ pub(crate) fn accepted_transaction<'a>(
 {
     let word = text(matches, name)?;
     let tx = transaction(alloc, matches, name)?;
-    let code = check_code(alloc, kind, &tx);
+    let code = check_code::<A>(alloc, kind, &tx);
     if code != 0 {
         return Err(UsageFault::Rejected {
             option: name,

@@ -21,6 +21,7 @@ use crate::options::{
 use crate::receipts::receipt;
 use crate::refused_words::fault_of;
 use crate::usage_fault::UsageFault;
+use app_kinds::Opening;
 use clap::ArgMatches;
 use cluster_setup::{
     AuditSettings, ClusterSettings, DeliverSettings, DrawSettings, ServeSettings, Settings,
@@ -55,7 +56,7 @@ fn sign_settings<'a>(
 }
 
 /// The settings of `abft deliver`, from its matches.
-fn deliver_settings<'a>(
+fn deliver_settings<'a, A: Opening>(
     alloc: Global,
     matches: &ArgMatches<'a>,
 ) -> Result<DeliverSettings, UsageFault<'a>>
@@ -65,7 +66,7 @@ fn deliver_settings<'a>(
 {
     let cluster = cluster(matches)?;
     let replica = small_number(matches, "replica", 0, cluster.config.replicas - 1)?;
-    let value = accepted_transaction(alloc, matches, "value", cluster.config.kind)?;
+    let value = accepted_transaction::<A>(alloc, matches, "value", cluster.config.kind)?;
     let height = number(matches, "height", 1, 4)?;
     let rounds = number(matches, "rounds", 0, 4_000_000_000)?;
     Ok(DeliverSettings {
@@ -91,7 +92,7 @@ fn simulate_settings<'a>(matches: &ArgMatches<'a>) -> Result<SimulateSettings, U
 }
 
 /// The settings of `abft cluster`, from its matches.
-fn cluster_settings<'a>(
+fn cluster_settings<'a, A: Opening>(
     alloc: Global,
     matches: &ArgMatches<'a>,
 ) -> Result<ClusterSettings, UsageFault<'a>>
@@ -100,7 +101,7 @@ fn cluster_settings<'a>(
     ensures right { (table : OptionTable) → HasRunning table → IfErr result (IsRightOf table (rows_of (found_of matches.now))) }
 {
     let cluster = cluster(matches)?;
-    let tx = accepted_transaction(alloc, matches, "tx", cluster.config.kind)?;
+    let tx = accepted_transaction::<A>(alloc, matches, "tx", cluster.config.kind)?;
     let rounds = number(matches, "rounds", 0, 4_000_000_000)?;
     let base_ms = number(matches, "base-ms", 1, 60_000)?;
     let log = log_filter(matches)?;
@@ -117,7 +118,7 @@ fn cluster_settings<'a>(
 }
 
 /// The settings of `abft serve`, from its matches.
-fn serve_settings<'a>(
+fn serve_settings<'a, A: Opening>(
     alloc: Global,
     matches: &ArgMatches<'a>,
 ) -> Result<ServeSettings, UsageFault<'a>>
@@ -125,7 +126,7 @@ fn serve_settings<'a>(
     ensures none { IfErr result (λ e. (s : ServeSettings) → SetsServe (rows_of (found_of matches.now)) s → WantsMemory e) }
     ensures right { IfErr result (IsRightOf serve_options (rows_of (found_of matches.now))) }
 {
-    let cluster = cluster_settings(alloc, matches)?;
+    let cluster = cluster_settings::<A>(alloc, matches)?;
     let port = number(matches, "port", 0, 65_535)?;
     let http = optional_port(matches, "http")?;
     let sessions = number(matches, "sessions", 1, 1000)?;
@@ -186,7 +187,10 @@ fn matches_of<'a>(alloc: Global, words: &'a [&'a str]) -> Result<ArgMatches<'a>,
 }
 
 /// The settings of the subcommand in the matches.
-fn settings_of<'a>(alloc: Global, matches: &ArgMatches<'a>) -> Result<Settings, UsageFault<'a>>
+fn settings_of<'a, A: Opening>(
+    alloc: Global,
+    matches: &ArgMatches<'a>,
+) -> Result<Settings, UsageFault<'a>>
     ensures set { IfOk result (λ s. Sets (subcommand_rows_of matches.now) s) }
     ensures refused { IfErr result (λ e. (s : Settings) → Sets (subcommand_rows_of matches.now) s → WantsMemory e) }
     ensures right { IfErr result (IsRightIn (subcommand_rows_of matches.now)) }
@@ -196,10 +200,10 @@ fn settings_of<'a>(alloc: Global, matches: &ArgMatches<'a>) -> Result<Settings, 
     };
     match name {
         "sign" => sign_settings(alloc, options).map(Settings::Sign),
-        "deliver" => deliver_settings(alloc, options).map(Settings::Deliver),
+        "deliver" => deliver_settings::<A>(alloc, options).map(Settings::Deliver),
         "simulate" => simulate_settings(options).map(Settings::Simulate),
-        "cluster" => cluster_settings(alloc, options).map(Settings::Cluster),
-        "serve" => serve_settings(alloc, options).map(Settings::Serve),
+        "cluster" => cluster_settings::<A>(alloc, options).map(Settings::Cluster),
+        "serve" => serve_settings::<A>(alloc, options).map(Settings::Serve),
         "audit" => audit_settings(alloc, options).map(Settings::Audit),
         "draw" => draw_settings(options).map(Settings::Draw),
         _ => Err(UsageFault::NoSubcommand),
@@ -210,7 +214,10 @@ fn settings_of<'a>(alloc: Global, matches: &ArgMatches<'a>) -> Result<Settings, 
 ///
 /// Each option has the value that the words give it, or else its default, and is within its limits. An `Err` contains
 /// what is wrong, or the help that the words ask for.
-pub fn settings<'a>(alloc: Global, words: &'a [&'a str]) -> Result<Settings, UsageFault<'a>>
+pub fn settings<'a, A: Opening>(
+    alloc: Global,
+    words: &'a [&'a str],
+) -> Result<Settings, UsageFault<'a>>
     ensures set { IfOk result (λ s. IsSet (map (λ w. w.now) words.entry.now) s) }
     // The words have no fault, and ask for neither the help nor the version.
     ensures taken { IfOk result (λ _. kinds_of (map (λ w. w.now) words.entry.now) ≡ []) }
@@ -221,5 +228,5 @@ pub fn settings<'a>(alloc: Global, words: &'a [&'a str]) -> Result<Settings, Usa
     ensures right { IfErr result (IsRightFault (map (λ w. w.now) words.entry.now)) }
 {
     let matches = matches_of(alloc, words)?;
-    settings_of(alloc, &matches)
+    settings_of::<A>(alloc, &matches)
 }

@@ -5,7 +5,7 @@ ghost use Rattle.history_audit.specs.Findings.{IsFinding};
 
 use crate::auditing::audit;
 use crate::fault::AuditFault;
-use app_kinds::new_apps;
+use app_kinds::{Opening, new_apps};
 use byte_streams::{ProgramFault, new_random_key};
 use key_ring::KeyRing;
 use ledger_model::{Config, History, Ledger};
@@ -16,7 +16,7 @@ use std::random::RandomSource;
 /// keys of the cluster's replicas by number. The random bytes are the keys of hashes.
 ///
 /// The only errors are that memory runs out, or that random bytes are refused.
-pub fn audited<S: RandomSource>(
+pub fn audited<A: Opening, S: RandomSource>(
     source: &S,
     alloc: Global,
     config: &Config,
@@ -28,7 +28,7 @@ pub fn audited<S: RandomSource>(
 {
     let random = new_random_key(source)?;
     let count = histories.len().min(usize::from(config.replicas));
-    let apps = new_apps(alloc, config.kind, count)?;
+    let apps = new_apps::<A>(alloc, config.kind, count)?;
     match audit(alloc, config, ring, histories, apps, random) {
         Err(AuditFault::NoMemory) => Err(ProgramFault::NoMemory),
         finding => Ok(finding),

@@ -11,6 +11,11 @@ use Rattle.byte_streams.proofs.WritingLemmas.{nothing_some}
 use Rattle.program.specs.declared.outcome.Conclusion.{Conclusion}
 use Rattle.program.specs.HistoryInput.{Outputs, OutputsSome, OutputsDone, OutputsDoneSome, ReadsWhole, bad_history}
 
+-- nothing was written of what is done with histories
+pub done_nothing : (Done : List History → ℕ → List ℕ → Type 0) (histories : List History) (before : Option (List ℕ))
+    → OutputsDoneSome Done histories before before
+done_nothing Done histories before = ([], (inl refl, nothing_some before []))
+
 module _ (frames : Version) (Done : List History → ℕ → List ℕ → Type 0) (input : List ℕ) (unread left : Option (List ℕ)) where
   -- nothing was written
   pub outputs_nothing : (before : Option (List ℕ)) → Consumes unread left input → OutputsSome frames Done unread left before before

@@ -9,6 +9,7 @@ ghost use Rattle.program.specs.Auditing.{Audited, Audits, AuditsSome, audit_stat
 use crate::history_input::{print_bad_history, read_history_input};
 use crate::outcome::Conclusion;
 use crate::status::BAD_INPUT;
+use app_kinds::Opening;
 use byte_streams::{ProgramFault, write_output};
 use cluster_setup::{AuditSettings, ClusterSeed, all_keys};
 use history_audit::{AuditFault, are_of_a_quorum, audited};
@@ -70,7 +71,7 @@ fn explained(
 }
 
 /// What an audit of the histories finds under the public keys of the cluster, which are made only if the count is right.
-fn found<S: RandomSource>(
+fn found<A: Opening, S: RandomSource>(
     source: &S,
     alloc: Global,
     cluster: &ClusterSeed,
@@ -83,11 +84,11 @@ fn found<S: RandomSource>(
         return Ok(Err(AuditFault::Count));
     }
     let keys = all_keys(alloc, cluster)?;
-    audited(source, alloc, &cluster.config, &keys.ring, histories)
+    audited::<A, S>(source, alloc, &cluster.config, &keys.ring, histories)
 }
 
 /// Audits histories and writes what it finds.
-fn audit_histories<S: RandomSource, W: Write>(
+fn audit_histories<A: Opening, S: RandomSource, W: Write>(
     source: &S,
     alloc: Global,
     settings: &AuditSettings,
@@ -100,7 +101,7 @@ fn audit_histories<S: RandomSource, W: Write>(
     ensures explains { IfOk result (λ ending. (ending.explanation ≡ None) ⊎ (ending.status ≡ 1)) }
     ensures fault { IfErr result IsMemoryOrAsked }
 {
-    let finding = found(source, alloc, &settings.cluster, histories)?;
+    let finding = found::<A, S>(source, alloc, &settings.cluster, histories)?;
     let receipt = check_receipt(settings, histories);
     let text = text_of(alloc, &finding, receipt)?;
     let explanation = explained(alloc, &settings.cluster.config, histories, &finding)?;
@@ -116,7 +117,7 @@ fn audit_histories<S: RandomSource, W: Write>(
 /// bytes are the keys of hashes.
 ///
 /// The end has a sentence about a fault that was found.
-pub fn audit<S: RandomSource, R: Read, W: Write>(
+pub fn audit<A: Opening, S: RandomSource, R: Read, W: Write>(
     source: &S,
     alloc: Global,
     settings: &AuditSettings,
@@ -131,7 +132,7 @@ pub fn audit<S: RandomSource, R: Read, W: Write>(
     ensures fault { IfErr result IsMemoryOrAsked }
 {
     match read_history_input(alloc, settings.cluster.config.frames, reader)? {
-        Some(histories) => audit_histories(source, alloc, settings, &histories, writer),
+        Some(histories) => audit_histories::<A, S, W>(source, alloc, settings, &histories, writer),
         None => print_bad_history(writer),
     }
 }

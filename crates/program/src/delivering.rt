@@ -7,7 +7,8 @@ use crate::frame_stream::deliver_pieces;
 use crate::line_printing::print_end;
 use crate::replica::{new_replica, start};
 use crate::stream_end::StreamEnd;
-use app_kinds::AnyKind;
+use abci::Application;
+use app_kinds::Opening;
 use byte_streams::ProgramFault;
 use cluster_setup::DeliverSettings;
 use locked_replica::State;
@@ -18,10 +19,10 @@ use std::random::RandomSource;
 
 /// Starts the replica, delivers the frames of a stream to it, and writes a line for each frame, and a last one if the
 /// stream ends badly.
-fn deliver_to<R: Read, W: Write>(
+fn deliver_to<A: Application, R: Read, W: Write>(
     alloc: Global,
     settings: &DeliverSettings,
-    state: &mut State<AnyKind>,
+    state: &mut State<A>,
     reader: &mut R,
     writer: &mut W,
 ) -> Result<StreamEnd, ProgramFault>
@@ -40,7 +41,7 @@ fn deliver_to<R: Read, W: Write>(
 
 /// Delivers the frames of a stream to the replica of the settings, and writes a line for each. The last line reports
 /// what is wrong with the stream, if anything is. The random bytes are the keys of the replica's hashes.
-pub fn deliver<S: RandomSource, R: Read, W: Write>(
+pub fn deliver<A: Opening, S: RandomSource, R: Read, W: Write>(
     source: &S,
     alloc: Global,
     settings: &DeliverSettings,
@@ -52,6 +53,6 @@ pub fn deliver<S: RandomSource, R: Read, W: Write>(
         (λ _. DeliversStreamSome settings.now (R.remaining reader.old) (R.remaining reader.new) (W.contents writer.old) (W.contents writer.new)) }
     ensures cause { IfErr result (StopsDelivery settings.now (R.remaining reader.old) (R.remaining reader.new) (W.contents writer.old) (W.contents writer.new)) }
 {
-    let mut state = new_replica(source, alloc, settings)?;
+    let mut state = new_replica::<A, S>(source, alloc, settings)?;
     deliver_to(alloc, settings, &mut state, reader, writer)
 }

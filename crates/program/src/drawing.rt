@@ -9,7 +9,7 @@ ghost use Rattle.program.specs.Drawing.{Drawn, Draws, DrawsSome, part_of, pictur
 use crate::history_input::{print_bad_history, read_history_input};
 use crate::outcome::Conclusion;
 use crate::status::{BAD_INPUT, DONE};
-use app_kinds::new_apps;
+use app_kinds::{Opening, new_apps};
 use byte_streams::{ProgramFault, new_random_key, write_output};
 use cluster_setup::{DrawSettings, all_keys};
 use history_audit::AuditFault;
@@ -37,7 +37,7 @@ fn part_of(settings: &DrawSettings) -> Part
 }
 
 /// The picture of histories under the public keys of the cluster.
-fn drawn<S: RandomSource>(
+fn drawn<A: Opening, S: RandomSource>(
     source: &S,
     alloc: Global,
     settings: &DrawSettings,
@@ -49,7 +49,7 @@ fn drawn<S: RandomSource>(
     let config = &settings.cluster.config;
     let part = part_of(settings);
     let keys = all_keys(alloc, &settings.cluster)?;
-    let apps = new_apps(alloc, config.kind, usize::from(config.replicas))?;
+    let apps = new_apps::<A>(alloc, config.kind, usize::from(config.replicas))?;
     let random = new_random_key(source)?;
     let picture = picture_of(alloc, config, &keys.ring, histories, apps, part, random)?;
     Ok(picture)
@@ -87,7 +87,7 @@ fn explained(
 }
 
 /// Draws histories, and writes the picture.
-fn draw_histories<S: RandomSource, W: Write>(
+fn draw_histories<A: Opening, S: RandomSource, W: Write>(
     source: &S,
     alloc: Global,
     settings: &DrawSettings,
@@ -100,7 +100,7 @@ fn draw_histories<S: RandomSource, W: Write>(
     ensures explains { IfOk result (λ ending. (ending.explanation ≡ None) ⊎ (ending.status ≡ 1)) }
     ensures fault { IfErr result IsMemoryOrAsked }
 {
-    let picture = drawn(source, alloc, settings, histories)?;
+    let picture = drawn::<A, S>(source, alloc, settings, histories)?;
     let svg = svg_of(alloc, &picture)?;
     let explanation = explained(alloc, &settings.cluster.config, histories, &picture)?;
     write_output(writer, &svg)?;
@@ -114,7 +114,7 @@ fn draw_histories<S: RandomSource, W: Write>(
 /// Each history is drawn as far as it is a replay. If the bytes are no histories, it writes that. The random bytes are the keys of hashes.
 ///
 /// The end has a sentence about the first history that isn't a replay.
-pub fn draw<S: RandomSource, R: Read, W: Write>(
+pub fn draw<A: Opening, S: RandomSource, R: Read, W: Write>(
     source: &S,
     alloc: Global,
     settings: &DrawSettings,
@@ -129,7 +129,7 @@ pub fn draw<S: RandomSource, R: Read, W: Write>(
     ensures fault { IfErr result IsMemoryOrAsked }
 {
     match read_history_input(alloc, settings.cluster.config.frames, reader)? {
-        Some(histories) => draw_histories(source, alloc, settings, &histories, writer),
+        Some(histories) => draw_histories::<A, S, W>(source, alloc, settings, &histories, writer),
         None => print_bad_history(writer),
     }
 }

@@ -16,7 +16,7 @@ use crate::line_printing::print_line;
 use crate::reading::{PIECE_LEN, read_piece};
 use crate::replica::answer;
 use crate::stream_end::{StreamEnd, StreamFault};
-use app_kinds::AnyKind;
+use abci::Application;
 use byte_streams::{ProgramFault, Resource};
 use locked_replica::State;
 use signed_frames::{Frame, FrameFault, FrameReader};
@@ -24,9 +24,9 @@ use std::alloc::Global;
 use std::io::{self, ErrorKind, Read, Write};
 
 /// Delivers a frame, and writes the line of the reply.
-fn deliver_frame<W: Write>(
+fn deliver_frame<A: Application, W: Write>(
     alloc: Global,
-    state: &mut State<AnyKind>,
+    state: &mut State<A>,
     frame: Frame,
     writer: &mut W,
 ) -> Result<(), ProgramFault>
@@ -38,9 +38,9 @@ fn deliver_frame<W: Write>(
 }
 
 /// Delivers the frames in order, and writes a line for each.
-fn deliver_all<W: Write>(
+fn deliver_all<A: Application, W: Write>(
     alloc: Global,
-    state: &mut State<AnyKind>,
+    state: &mut State<A>,
     frames: Vec<Frame>,
     writer: &mut W,
 ) -> Result<(), ProgramFault>
@@ -82,9 +82,9 @@ fn fault_behind(frames: &mut FrameReader) -> Result<Option<StreamFault>, Program
 }
 
 /// Delivers the frames that a piece of the stream completes. Returns the fault that follows them, if one does.
-fn deliver_piece<W: Write>(
+fn deliver_piece<A: Application, W: Write>(
     alloc: Global,
-    state: &mut State<AnyKind>,
+    state: &mut State<A>,
     frames: &mut FrameReader,
     piece: &[u8],
     writer: &mut W,
@@ -122,9 +122,9 @@ fn end_of(frames: &FrameReader) -> StreamEnd
 }
 
 /// Delivers the frames of the stream piece by piece, to its end or to the first fault.
-pub(crate) fn deliver_pieces<R: Read, W: Write>(
+pub(crate) fn deliver_pieces<A: Application, R: Read, W: Write>(
     alloc: Global,
-    state: &mut State<AnyKind>,
+    state: &mut State<A>,
     frames: &mut FrameReader,
     reader: &mut R,
     writer: &mut W,

@@ -1,7 +1,7 @@
 //! The program over any streams: its subcommands, chosen by the words of the command line, and its exit statuses.
 //! `abft deliver` delivers the frames of a stream to a replica, and `abft simulate` plays a scenario text on a whole
 //! cluster. Both write lines about what happened. `abft audit` reads histories and writes whether they have one ledger, and `abft draw` writes a picture of
-//! their run.
+//! their run. The caller of [`run`] chooses the application of the replicas, as a type.
 #![tactic(auto)]
 
 mod auditing;

@@ -7,7 +7,7 @@ ghost use Rattle.program.specs.Simulating.{simulation_at_start};
 
 use crate::replica::new_keys;
 use adversary_net::{WorldFault, count_correct};
-use app_kinds::{AnyKind, new_apps};
+use app_kinds::{Opening, new_apps};
 use byte_streams::ProgramFault;
 use cluster_setup::{ClusterSeed, SimulateSettings};
 use scenario_texts::Scenario;
@@ -33,12 +33,12 @@ fn new_randoms<S: RandomSource>(
 }
 
 /// The cluster of a scenario at its start.
-pub(crate) fn new_simulation<S: RandomSource>(
+pub(crate) fn new_simulation<A: Opening, S: RandomSource>(
     source: &S,
     alloc: Global,
     settings: &SimulateSettings,
     scenario: &Scenario,
-) -> Result<Simulation<AnyKind>, ProgramFault>
+) -> Result<Simulation<A>, ProgramFault>
     requires { IsPlan (plan_of scenario.now) }
     ensures opening { IfOk result (λ simulation. simulation ≡ simulation_at_start settings.now.seed scenario.now.setup.config (plan_of scenario.now)) }
     ensures fault { IfErr result IsMemoryOrAsked }

@@ -9,8 +9,9 @@ ghost use Rattle.byte_streams.specs.Faults.{IsMemoryOrAsked};
 ghost use Rattle.program.specs.Simulating.{PlansWritten, PlaysWritten, PlaysWrittenSome, histories_of};
 
 use crate::opening::new_simulation;
+use abci::Application;
 use adversary_net::World;
-use app_kinds::AnyKind;
+use app_kinds::Opening;
 use byte_streams::{ProgramFault, write_output};
 use cluster_setup::SimulateSettings;
 use history_bytes::history_bytes;
@@ -22,8 +23,8 @@ use std::io::Write;
 use std::random::RandomSource;
 
 /// Plays a command, and writes its lines if they are wanted.
-fn play_command<W: Write>(
-    simulation: &mut Simulation<AnyKind>,
+fn play_command<A: Application, W: Write>(
+    simulation: &mut Simulation<A>,
     command: &Command,
     has_lines: bool,
     writer: &mut W,
@@ -41,8 +42,8 @@ fn play_command<W: Write>(
 }
 
 /// Plays the commands in order, and writes the lines of each if they are wanted.
-fn play_all<W: Write>(
-    simulation: &mut Simulation<AnyKind>,
+fn play_all<A: Application, W: Write>(
+    simulation: &mut Simulation<A>,
     commands: &[Command],
     has_lines: bool,
     writer: &mut W,
@@ -75,9 +76,9 @@ fn write_histories<W: Write>(
 }
 
 /// Writes the histories of the correct replicas if they are wanted.
-fn write_end<W: Write>(
+fn write_end<A: Application, W: Write>(
     alloc: Global,
-    world: &World<AnyKind>,
+    world: &World<A>,
     has_histories: bool,
     writer: &mut W,
 ) -> Result<(), ProgramFault>
@@ -92,7 +93,7 @@ fn write_end<W: Write>(
 }
 
 /// Plays a scenario, and writes either its lines, or the histories at its end.
-pub(crate) fn play<S: RandomSource, W: Write>(
+pub(crate) fn play<A: Opening, S: RandomSource, W: Write>(
     source: &S,
     alloc: Global,
     settings: &SimulateSettings,
@@ -103,7 +104,7 @@ pub(crate) fn play<S: RandomSource, W: Write>(
     ensures plays { PlansWritten result settings.now (plan_of scenario.now) (W.contents writer.old) (W.contents writer.new) }
     ensures fault { IfErr result IsMemoryOrAsked }
 {
-    let mut simulation = new_simulation(source, alloc, settings, scenario)?;
+    let mut simulation = new_simulation::<A, S>(source, alloc, settings, scenario)?;
     play_all(
         &mut simulation,
         &scenario.commands,

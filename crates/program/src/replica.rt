@@ -9,7 +9,8 @@ ghost use Rattle.program.specs.Faults.{FailsAfter};
 ghost use Rattle.ledger_model.specs.Limits.{max_history_len};
 
 use crate::line::Line;
-use app_kinds::AnyKind;
+use abci::Application;
+use app_kinds::Opening;
 use byte_streams::{ProgramFault, new_random_key};
 use bytes::Bytes;
 use cluster_setup::{DeliverSettings, signer_and_ring};
@@ -27,11 +28,11 @@ pub(crate) fn new_keys<S: RandomSource>(source: &S) -> Result<[RandomState; 2], 
 }
 
 /// The replica of the settings, with an empty history. The random bytes are the keys of its hashes.
-pub(crate) fn new_replica<S: RandomSource>(
+pub(crate) fn new_replica<A: Opening, S: RandomSource>(
     source: &S,
     alloc: Global,
     settings: &DeliverSettings,
-) -> Result<State<AnyKind>, ProgramFault>
+) -> Result<State<A>, ProgramFault>
     ensures fresh { IfOk result (λ state. state ≡ fresh settings.now) }
     ensures fault { IfErr result IsMemoryOrAsked }
 {
@@ -40,7 +41,7 @@ pub(crate) fn new_replica<S: RandomSource>(
     let Ok((signer, ring)) = signer_and_ring(alloc, &settings.cluster, settings.replica) else {
         return Err(ProgramFault::NoMemory);
     };
-    let app = AnyKind::new(alloc, config.kind);
+    let app = A::opening(alloc, config.kind);
     match State::new(alloc, config, settings.replica, signer, ring, app, randoms) {
         Ok(state) => Ok(state),
         Err(_) => Err(ProgramFault::NoMemory),
@@ -69,7 +70,7 @@ fn taken(outcome: Result<usize, ApplyFault>) -> Result<(), ProgramFault>
 }
 
 /// Submits bytes to the replica.
-fn submit(state: &mut State<AnyKind>, bytes: Bytes) -> Result<(), ProgramFault>
+fn submit<A: Application>(state: &mut State<A>, bytes: Bytes) -> Result<(), ProgramFault>
     ensures answers { MatchResult result
         (λ _. AnswersEvents state.old (event.Submit bytes ∷ []) [] state.new)
         (λ _. TakesNoEvent state.old state.new) }
@@ -80,7 +81,7 @@ fn submit(state: &mut State<AnyKind>, bytes: Bytes) -> Result<(), ProgramFault>
 }
 
 /// Lets the replica propose a height.
-fn propose(state: &mut State<AnyKind>, height: Height) -> Result<(), ProgramFault>
+fn propose<A: Application>(state: &mut State<A>, height: Height) -> Result<(), ProgramFault>
     ensures answers { MatchResult result
         (λ _. AnswersEvents state.old (event.Propose height ∷ []) [] state.new)
         (λ _. TakesNoEvent state.old state.new) }
@@ -91,7 +92,7 @@ fn propose(state: &mut State<AnyKind>, height: Height) -> Result<(), ProgramFaul
 }
 
 /// Ends a round.
-fn end_round(state: &mut State<AnyKind>) -> Result<(), ProgramFault>
+fn end_round<A: Application>(state: &mut State<A>) -> Result<(), ProgramFault>
     ensures answers { MatchResult result
         (λ _. AnswersEvents state.old (event.RoundEnd ∷ []) [] state.new)
         (λ _. TakesNoEvent state.old state.new) }
@@ -102,7 +103,7 @@ fn end_round(state: &mut State<AnyKind>) -> Result<(), ProgramFault>
 }
 
 /// Ends `rounds` rounds.
-fn end_rounds(state: &mut State<AnyKind>, rounds: u32) -> Result<(), ProgramFault>
+fn end_rounds<A: Application>(state: &mut State<A>, rounds: u32) -> Result<(), ProgramFault>
     ensures answers { MatchResult result
         (λ _. AnswersEvents state.old (replicate rounds event.RoundEnd) [] state.new)
         (λ _. AnswersSome state.old (replicate rounds event.RoundEnd) [] state.new) }
@@ -115,10 +116,10 @@ fn end_rounds(state: &mut State<AnyKind>, rounds: u32) -> Result<(), ProgramFaul
 }
 
 /// What happens before the first frame is delivered: the value is submitted, the height is proposed, and the rounds end.
-pub(crate) fn start(
+pub(crate) fn start<A: Application>(
     alloc: Global,
     settings: &DeliverSettings,
-    state: &mut State<AnyKind>,
+    state: &mut State<A>,
 ) -> Result<(), ProgramFault>
     ensures answers { MatchResult result
         (λ _. AnswersEvents state.old (starting settings.now) [] state.new)
@@ -134,7 +135,10 @@ pub(crate) fn start(
 }
 
 /// Delivers bytes to the replica, and returns the line of its reply.
-pub(crate) fn answer(state: &mut State<AnyKind>, bytes: Bytes) -> Result<Line, ProgramFault>
+pub(crate) fn answer<A: Application>(
+    state: &mut State<A>,
+    bytes: Bytes,
+) -> Result<Line, ProgramFault>
     ensures answers { MatchResult result
         (λ line. AnswersEvents state.old (event.Deliver bytes ∷ []) (line_bytes line) state.new)
         (λ _. TakesNoEvent state.old state.new) }

@@ -19,6 +19,7 @@ use crate::simulating::simulate;
 use crate::status::{BAD_INPUT, BAD_USAGE, DONE};
 use crate::stream_end::StreamEnd;
 use crate::text_end::TextEnd;
+use app_kinds::Opening;
 use byte_streams::{
     ProgramFault, Resource, STOPPED, complain, flush_output, print, write_output, write_whole,
 };
@@ -31,10 +32,10 @@ use std::random::RandomSource;
 /// Runs the program on its words, of which the first is its name, and returns its exit status: 0 done, 1 bad input, or a fault
 /// or a wrong receipt that an audit found, 2 bad usage, 3 out of memory, a full history or a failed stream. At 2 and 3 it writes
 /// to `faults` what is wrong, and at 1 a sentence about a fault that an audit found. The random bytes of `source` are the keys of
-/// hashes. If the words ask for a running cluster, it does nothing and returns the settings.
+/// hashes. If the words ask for a running cluster, it does nothing and returns the settings. The replicas run the application `A`.
 ///
 /// No clause can speak of the real stdin and stdout. The contract holds for every reader and writer whose bytes a clause can name.
-pub fn run<S: RandomSource, R: Read, W: Write, F: Write>(
+pub fn run<A: Opening, S: RandomSource, R: Read, W: Write, F: Write>(
     source: &S,
     alloc: Global,
     words: &[&str],
@@ -68,14 +69,16 @@ pub fn run<S: RandomSource, R: Read, W: Write, F: Write>(
         × Keeps (F.contents faults.old) (F.contents faults.new)
         × (kinds_of (map (λ w. w.now) words.entry.now) ≡ [])) }
 {
-    match settings(alloc, words) {
-        Ok(settings) => run_settings(source, alloc, settings, reader, writer, faults),
+    match settings::<A>(alloc, words) {
+        Ok(settings) => run_settings::<A, S, R, W, F>(
+            source, alloc, settings, reader, writer, faults,
+        ),
         Err(fault) => Outcome::Ended(write_fault(alloc, &fault, writer, faults)),
     }
 }
 
 /// Does what the settings ask for, and returns the exit status; or returns the settings, if that takes threads.
-fn run_settings<S: RandomSource, R: Read, W: Write, F: Write>(
+fn run_settings<A: Opening, S: RandomSource, R: Read, W: Write, F: Write>(
     source: &S,
     alloc: Global,
     settings: Settings,
@@ -92,7 +95,7 @@ fn run_settings<S: RandomSource, R: Read, W: Write, F: Write>(
 {
     match Piped::of(settings) {
         Ok(piped) => {
-            let done = perform_whole(source, alloc, &piped, reader, writer);
+            let done = perform_whole::<A, S, R, W>(source, alloc, &piped, reader, writer);
             Outcome::Ended(end(alloc, done, faults))
         }
         Err(handed) => handed,
@@ -139,7 +142,7 @@ pub fn refuse_words<F: Write>(alloc: Global, error: io::Error, faults: &mut F) -
 }
 
 /// Does what the settings ask for, except for the flush, and returns how it ended.
-fn perform<S: RandomSource, R: Read, W: Write>(
+fn perform<A: Opening, S: RandomSource, R: Read, W: Write>(
     source: &S,
     alloc: Global,
     settings: &Piped,
@@ -157,20 +160,20 @@ fn perform<S: RandomSource, R: Read, W: Write>(
             Ok(Conclusion::plain(DONE))
         }
         Piped::Deliver(settings) => {
-            let end = deliver(source, alloc, settings, reader, writer)?;
+            let end = deliver::<A, S, R, W>(source, alloc, settings, reader, writer)?;
             Ok(Conclusion::plain(stream_status(end)))
         }
         Piped::Simulate(settings) => {
-            let end = simulate(source, alloc, settings, reader, writer)?;
+            let end = simulate::<A, S, R, W>(source, alloc, settings, reader, writer)?;
             Ok(Conclusion::plain(text_status(end)))
         }
-        Piped::Audit(settings) => audit(source, alloc, settings, reader, writer),
-        Piped::Draw(settings) => draw(source, alloc, settings, reader, writer),
+        Piped::Audit(settings) => audit::<A, S, R, W>(source, alloc, settings, reader, writer),
+        Piped::Draw(settings) => draw::<A, S, R, W>(source, alloc, settings, reader, writer),
     }
 }
 
 /// Does what the settings ask for, flushes the writer, and returns how it ended.
-fn perform_whole<S: RandomSource, R: Read, W: Write>(
+fn perform_whole<A: Opening, S: RandomSource, R: Read, W: Write>(
     source: &S,
     alloc: Global,
     settings: &Piped,
@@ -182,7 +185,7 @@ fn perform_whole<S: RandomSource, R: Read, W: Write>(
         (λ _. Halted (settings_of settings.now) (R.remaining reader.old) (R.remaining reader.new) (W.contents writer.old) (W.contents writer.new)) }
     ensures explains { IfOk result (ExplainsHistories (settings_of settings.now)) }
 {
-    let ending = perform(source, alloc, settings, reader, writer)?;
+    let ending = perform::<A, S, R, W>(source, alloc, settings, reader, writer)?;
     flush_output(writer)?;
     Ok(ending)
 }

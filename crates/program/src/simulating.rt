@@ -7,6 +7,7 @@ ghost use Rattle.program.specs.Simulating.{PlaysText, PlaysTextSome, bad_line};
 use crate::playing::play;
 use crate::scenario_input::{ScenarioInput, read_scenario};
 use crate::text_end::TextEnd;
+use app_kinds::Opening;
 use byte_streams::{ProgramFault, write_output};
 use cluster_setup::SimulateSettings;
 use std::alloc::Global;
@@ -25,7 +26,7 @@ fn print_bad_line<W: Write>(alloc: Global, writer: &mut W, number: u32) -> Resul
 /// Plays the scenario of a stream, and writes either its lines, or the histories at its end. A text with a bad line is
 /// not played; its number is written. A text that is too large for a scenario is not read further than needed to know
 /// that. The random bytes are the keys of the replicas' hashes.
-pub fn simulate<S: RandomSource, R: Read, W: Write>(
+pub fn simulate<A: Opening, S: RandomSource, R: Read, W: Write>(
     source: &S,
     alloc: Global,
     settings: &SimulateSettings,
@@ -39,7 +40,7 @@ pub fn simulate<S: RandomSource, R: Read, W: Write>(
 {
     match read_scenario(alloc, reader)? {
         ScenarioInput::Scenario(scenario) => {
-            play(source, alloc, settings, &scenario, writer)?;
+            play::<A, S, W>(source, alloc, settings, &scenario, writer)?;
             Ok(TextEnd::Whole)
         }
         ScenarioInput::BadLine(number) => {

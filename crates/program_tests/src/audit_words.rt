@@ -1,5 +1,6 @@
 //! The settings that the words of `abft audit` give, and the words that spell no receipt.
 use crate::setting_lines::is_set_by;
+use app_kinds::AnyKind;
 use command_line::{UsageFault, settings};
 use std::alloc::Global;
 
@@ -38,7 +39,7 @@ fn the_words_of_audit_set_each_option(rt: HostRuntime) {
 
 /// Whether the word is refused as no receipt.
 fn is_no_receipt(alloc: Global, word: &str) -> bool {
-    match settings(alloc, &["abft", "audit", "--receipt", word]) {
+    match settings::<AnyKind>(alloc, &["abft", "audit", "--receipt", word]) {
         Err(UsageFault::Receipt(told)) => told == word,
         _ => false,
     }

@@ -1,5 +1,6 @@
 //! `abft deliver` over streams.
 use crate::streams::{Case, Sink, Source};
+use app_kinds::AnyKind;
 use byte_streams::ProgramFault;
 use cluster_setup::{ClusterSeed, DeliverSettings, SignSettings, What};
 use ledger_model::{AppKind, Config, Height, Phase, ReplicaId, Tx};
@@ -82,7 +83,7 @@ fn outcome<S: RandomSource>(
     let mut reader = Source::new(case.text, case.fails);
     text_of(
         alloc,
-        deliver(source, alloc, &settings, &mut reader, output),
+        deliver::<AnyKind, _, _, _>(source, alloc, &settings, &mut reader, output),
     )
 }
 

@@ -1,5 +1,6 @@
 //! Faults of the program: each has a status, and a text that is written with one write. What is printed is flushed.
 use crate::streams::{Sink, Source};
+use app_kinds::AnyKind;
 use program::{Outcome, refuse_words, run};
 use std::alloc::Global;
 use std::io::{self, ErrorKind};
@@ -13,7 +14,7 @@ fn outcome_of<S: RandomSource>(
     output: &mut Sink,
     faults: &mut Sink,
 ) -> Outcome {
-    run(
+    run::<AnyKind, _, _, _, _>(
         source,
         alloc,
         words,

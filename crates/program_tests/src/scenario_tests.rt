@@ -1,5 +1,6 @@
 //! `abft simulate` over streams.
 use crate::streams::{Case, Sink, Source};
+use app_kinds::AnyKind;
 use cluster_setup::SimulateSettings;
 use program::simulate;
 use std::alloc::Global;
@@ -22,7 +23,7 @@ fn outcome<S: RandomSource>(
     };
     let mut reader = Source::new(case.text, case.fails);
     Ok(
-        match simulate(source, alloc, &settings, &mut reader, output) {
+        match simulate::<AnyKind, _, _, _>(source, alloc, &settings, &mut reader, output) {
             Ok(end) => format!(in alloc; "{end:?}")?,
             Err(fault) => format!(in alloc; "{fault}")?,
         },

@@ -1,4 +1,5 @@
 //! Prints the settings that words of a command line give, as a line, for the tests.
+use app_kinds::AnyKind;
 use cluster_setup::{
     AuditSettings, ClusterSeed, ClusterSettings, Receipt, ServeSettings, Settings,
 };
@@ -56,7 +57,7 @@ fn audit_line(alloc: Global, audit: &AuditSettings) -> Result<String, AllocError
 
 /// The settings that the words give, as a line, or what is wrong with them.
 fn settings_line(alloc: Global, words: &[&str]) -> Result<String, AllocError> {
-    match settings(alloc, words) {
+    match settings::<AnyKind>(alloc, words) {
         Ok(Settings::Cluster(running)) => running_line(alloc, &running),
         Ok(Settings::Serve(serve)) => serving_line(alloc, &serve),
         Ok(Settings::Audit(audit)) => audit_line(alloc, &audit),

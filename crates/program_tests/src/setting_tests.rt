@@ -1,5 +1,6 @@
 //! The settings that the words of a command line give. `tests/end_to_end.sh` tests those of `abft sign`, and the words
 //! that are refused.
+use app_kinds::AnyKind;
 use cluster_setup::Settings;
 use command_line::settings;
 use ledger_model::{AppKind, Version};
@@ -7,7 +8,7 @@ use std::alloc::Global;
 
 /// The settings that the words give, if they give any. It has no `ensures`, which keeps clap out of the tests' proofs.
 fn set(alloc: Global, words: &[&str]) -> Option<Settings> {
-    settings(alloc, words).ok()
+    settings::<AnyKind>(alloc, words).ok()
 }
 
 /// The application of the cluster of `abft sign`.

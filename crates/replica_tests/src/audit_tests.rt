@@ -177,7 +177,7 @@ fn audited(
     histories: &[History],
 ) -> Result<Outcome, AllocError> {
     let config = &snapshot.config;
-    let apps = new_apps(alloc, config.kind, histories.len())?;
+    let apps = new_apps::<AnyKind>(alloc, config.kind, histories.len())?;
     Ok(
         match audit(alloc, config, &snapshot.ring, histories, apps, random) {
             Ok(ledger) => outcome_of_ledger(&ledger),

@@ -3,7 +3,7 @@ use crate::fault::Fault;
 use crate::handing::{Part, handed_in};
 use crate::playing::{history_of, played};
 use crate::scripts::{PLAIN, RETIRED, Script};
-use app_kinds::new_apps;
+use app_kinds::{AnyKind, new_apps};
 use ledger_model::ReplicaId;
 use run_picture::{Fact, Mark, Part as Shown, Picture, picture_of};
 use std::alloc::Global;
@@ -91,7 +91,7 @@ fn picture_in(alloc: Global, random: RandomState, row: &Row) -> Result<Picture, 
     let snapshot = history_of(&simulation, 0)?;
     let config = &snapshot.config;
     let histories = handed_in(alloc, &simulation, row.parts)?;
-    let apps = new_apps(alloc, config.kind, usize::from(config.replicas))?;
+    let apps = new_apps::<AnyKind>(alloc, config.kind, usize::from(config.replicas))?;
     Ok(picture_of(alloc, config, &snapshot.ring, &histories, apps, ALL, random)?)
 }
 

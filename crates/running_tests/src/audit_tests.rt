@@ -44,7 +44,7 @@ impl Auditor {
     /// What an audit of these histories returns.
     fn outcome(&self, alloc: Global, histories: &[History]) -> Result<Outcome, Fail> {
         let config = &self.config;
-        let apps = new_apps(alloc, config.kind, usize::from(config.replicas))?;
+        let apps = new_apps::<AnyKind>(alloc, config.kind, usize::from(config.replicas))?;
         Ok(
             match audit(alloc, config, &self.ring, histories, apps, self.random) {
                 Ok(ledger) => Outcome::Ledger(ledger.blocks().len()),

@@ -2,8 +2,10 @@
 use Rattle.std.proofs.Common.{◌≡◌, [], vec_len}
 use Rattle.std.specs.Prelude.{All}
 use Rattle.ledger_model.specs.Applications.{run}
-use Rattle.app_kinds.specs.Chosen.{machine_of}
 use Rattle.app_kinds.proofs.opening.new_apps.Given as goal
 
 abbrev pub invariant-loop : goal.invariant-loop
-invariant-loop l = record { count : vec_len l.apps ≡ l.counter; opening : All (λ app. machine_of app ≡ run l.kind []) l.apps.items }
+invariant-loop g l = record {
+  count : vec_len l.apps ≡ l.counter;
+  opening : All (λ app. g.A.Application.machine app ≡ run l.kind []) l.apps.items;
+}

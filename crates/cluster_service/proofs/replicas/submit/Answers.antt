@@ -3,7 +3,7 @@ use Rattle.cluster_service.proofs.Begun.{Goes, first_goes}
 use Rattle.cluster_service.proofs.replicas.submit.Goals as goal
 
 pub returns-in-Ok-clause-begun : goal.returns-in-Ok-clause-begun
-returns-in-Ok-clause-begun c =
+returns-in-Ok-clause-begun g c =
     let cluster = c.args.cluster.now in
     let id = c.args.state.now.id in
     let given = c.in-Ok.ensures in

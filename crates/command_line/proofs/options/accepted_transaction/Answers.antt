@@ -8,19 +8,19 @@ use Rattle.command_line.proofs.NumberLemmas.{one_transaction}
 use Rattle.command_line.proofs.options.accepted_transaction.Goals as goal
 
 pub returns-in_err-tx-clause-none : goal.returns-in_err-tx-clause-none
-returns-in_err-tx-clause-none c =
+returns-in_err-tx-clause-none g c =
     passed_up _ c.in_err-tx.field-0.0
     (λ e. (tx : List ℕ) → IsAccepted (rows_of (found_of c.args.matches.now)) c.args.name.now c.args.kind tx → WantsMemory e)
     c.from_residual-in_err-tx.ensures.1 (λ tx i. c.in_err-tx.ensures.none tx i.written)
 
 pub returns-then-code-ne0-clause-none : goal.returns-then-code-ne0-clause-none
-returns-then-code-ne0-clause-none c = λ tx i.
+returns-then-code-ne0-clause-none g c = λ tx i.
     let same : tx ≡ c.in_ok-tx.tx =
     one_transaction (rows_of (found_of c.args.matches.now)) c.args.name.now _ _ i.written c.in_ok-tx.ensures.some in
     c.if-code-ne0.true (c.check_code-code.ensures ∙ ap (check_reply c.args.kind []) (sym same) ∙ i.checked)
 
 pub returns-then-code-ne0-clause-right : goal.returns-then-code-ne0-clause-right
-returns-then-code-ne0-clause-right c = λ table takes chosen. (
+returns-then-code-ne0-clause-right g c = λ table takes chosen. (
   takes,
   record {
     has = c.in_ok-word.ensures.some;
@@ -34,11 +34,11 @@ returns-then-code-ne0-clause-right c = λ table takes chosen. (
 )
 
 pub returns-in_err-word-clause-right : goal.returns-in_err-word-clause-right
-returns-in_err-word-clause-right c =
+returns-in_err-word-clause-right g c =
     λ table takes chosen. passed_up _ c.in_err-word.field-0.0 (IsRightOf table (rows_of (found_of c.args.matches.now)))
     c.from_residual.ensures.1 (c.in_err-word.ensures.right table takes.0)
 
 pub returns-in_err-tx-clause-right : goal.returns-in_err-tx-clause-right
-returns-in_err-tx-clause-right c =
+returns-in_err-tx-clause-right g c =
     λ table takes chosen. passed_up _ c.in_err-tx.field-0.0 (IsRightOf table (rows_of (found_of c.args.matches.now)))
     c.from_residual-in_err-tx.ensures.1 (c.in_err-tx.ensures.right table takes)

@@ -12,7 +12,7 @@ use Rattle.command_line.proofs.Tables.{has_running}
 use Rattle.command_line.proofs.settings_of_words.settings_of.Goals as goal
 
 pub returns-in-sign-clause-set : goal.returns-in-sign-clause-set
-returns-in-sign-clause-set c =
+returns-in-sign-clause-set g c =
     let rows : List Row = rows_of (found_of c.in-Some.options.now) in
     let found = found_is c.args.matches.now (codes "sign") rows (search (rules, c.in-sign.is, c.in-Some.ensures.name))
     c.in-Some.ensures.rows in
@@ -21,7 +21,7 @@ returns-in-sign-clause-set c =
     c.map.ensures.cases
 
 pub returns-in-sign-clause-refused : goal.returns-in-sign-clause-refused
-returns-in-sign-clause-refused c =
+returns-in-sign-clause-refused g c =
     let rows : List Row = rows_of (found_of c.in-Some.options.now) in
     let found = found_is c.args.matches.now (codes "sign") rows (search (rules, c.in-sign.is, c.in-Some.ensures.name))
     c.in-Some.ensures.rows in
@@ -29,7 +29,7 @@ returns-in-sign-clause-refused c =
     c.map.ensures.cases
 
 pub returns-in-deliver-clause-set : goal.returns-in-deliver-clause-set
-returns-in-deliver-clause-set c =
+returns-in-deliver-clause-set g c =
     let rows : List Row = rows_of (found_of c.in-Some.options.now) in
     let found = found_is c.args.matches.now (codes "deliver") rows (search (rules, c.in-deliver.is, c.in-Some.ensures.name))
     c.in-Some.ensures.rows in
@@ -38,7 +38,7 @@ returns-in-deliver-clause-set c =
     c.map-in-deliver.ensures.cases
 
 pub returns-in-deliver-clause-refused : goal.returns-in-deliver-clause-refused
-returns-in-deliver-clause-refused c =
+returns-in-deliver-clause-refused g c =
     let rows : List Row = rows_of (found_of c.in-Some.options.now) in
     let found = found_is c.args.matches.now (codes "deliver") rows (search (rules, c.in-deliver.is, c.in-Some.ensures.name))
     c.in-Some.ensures.rows in
@@ -46,7 +46,7 @@ returns-in-deliver-clause-refused c =
     c.deliver_settings.ensures.none c.map-in-deliver.ensures.cases
 
 pub returns-in-simulate-clause-set : goal.returns-in-simulate-clause-set
-returns-in-simulate-clause-set c =
+returns-in-simulate-clause-set g c =
     let rows : List Row = rows_of (found_of c.in-Some.options.now) in
     let found = found_is c.args.matches.now (codes "simulate") rows (search (rules, c.in-simulate.is, c.in-Some.ensures.name))
     c.in-Some.ensures.rows in
@@ -55,7 +55,7 @@ returns-in-simulate-clause-set c =
     c.map-in-simulate.ensures.cases
 
 pub returns-in-simulate-clause-refused : goal.returns-in-simulate-clause-refused
-returns-in-simulate-clause-refused c =
+returns-in-simulate-clause-refused g c =
     let rows : List Row = rows_of (found_of c.in-Some.options.now) in
     let found = found_is c.args.matches.now (codes "simulate") rows (search (rules, c.in-simulate.is, c.in-Some.ensures.name))
     c.in-Some.ensures.rows in
@@ -63,7 +63,7 @@ returns-in-simulate-clause-refused c =
     (refused_anyway (SetsSimulate rows) WantsMemory _ c.simulate_settings.ensures.none) c.map-in-simulate.ensures.cases
 
 pub returns-in-cluster-clause-set : goal.returns-in-cluster-clause-set
-returns-in-cluster-clause-set c =
+returns-in-cluster-clause-set g c =
     let rows : List Row = rows_of (found_of c.in-Some.options.now) in
     let found = found_is c.args.matches.now (codes "cluster") rows (search (rules, c.in-cluster.is, c.in-Some.ensures.name))
     c.in-Some.ensures.rows in
@@ -72,7 +72,7 @@ returns-in-cluster-clause-set c =
     c.map-in-cluster.ensures.cases
 
 pub returns-in-cluster-clause-refused : goal.returns-in-cluster-clause-refused
-returns-in-cluster-clause-refused c =
+returns-in-cluster-clause-refused g c =
     let rows : List Row = rows_of (found_of c.in-Some.options.now) in
     let found = found_is c.args.matches.now (codes "cluster") rows (search (rules, c.in-cluster.is, c.in-Some.ensures.name))
     c.in-Some.ensures.rows in
@@ -80,7 +80,7 @@ returns-in-cluster-clause-refused c =
     c.cluster_settings.ensures.none c.map-in-cluster.ensures.cases
 
 pub returns-in-serve-clause-set : goal.returns-in-serve-clause-set
-returns-in-serve-clause-set c =
+returns-in-serve-clause-set g c =
     let rows : List Row = rows_of (found_of c.in-Some.options.now) in
     let found = found_is c.args.matches.now (codes "serve") rows (search (rules, c.in-serve.is, c.in-Some.ensures.name))
     c.in-Some.ensures.rows in
@@ -89,7 +89,7 @@ returns-in-serve-clause-set c =
     c.map-in-serve.ensures.cases
 
 pub returns-in-serve-clause-refused : goal.returns-in-serve-clause-refused
-returns-in-serve-clause-refused c =
+returns-in-serve-clause-refused g c =
     let rows : List Row = rows_of (found_of c.in-Some.options.now) in
     let found = found_is c.args.matches.now (codes "serve") rows (search (rules, c.in-serve.is, c.in-Some.ensures.name))
     c.in-Some.ensures.rows in
@@ -97,7 +97,7 @@ returns-in-serve-clause-refused c =
     c.serve_settings.ensures.none c.map-in-serve.ensures.cases
 
 pub returns-in-audit-clause-set : goal.returns-in-audit-clause-set
-returns-in-audit-clause-set c =
+returns-in-audit-clause-set g c =
     let rows : List Row = rows_of (found_of c.in-Some.options.now) in
     let found = found_is c.args.matches.now (codes "audit") rows (search (rules, c.in-audit.is, c.in-Some.ensures.name))
     c.in-Some.ensures.rows in
@@ -106,7 +106,7 @@ returns-in-audit-clause-set c =
     c.map-in-audit.ensures.cases
 
 pub returns-in-draw-clause-set : goal.returns-in-draw-clause-set
-returns-in-draw-clause-set c =
+returns-in-draw-clause-set g c =
     let rows : List Row = rows_of (found_of c.in-Some.options.now) in
     let found = found_is c.args.matches.now (codes "draw") rows (search (rules, c.in-draw.is, c.in-Some.ensures.name))
     c.in-Some.ensures.rows in
@@ -115,7 +115,7 @@ returns-in-draw-clause-set c =
     c.map-in-draw.ensures.cases
 
 pub returns-in-audit-clause-refused : goal.returns-in-audit-clause-refused
-returns-in-audit-clause-refused c =
+returns-in-audit-clause-refused g c =
     let rows : List Row = rows_of (found_of c.in-Some.options.now) in
     let found = found_is c.args.matches.now (codes "audit") rows (search (rules, c.in-audit.is, c.in-Some.ensures.name))
     c.in-Some.ensures.rows in
@@ -123,7 +123,7 @@ returns-in-audit-clause-refused c =
     c.audit_settings.ensures.none c.map-in-audit.ensures.cases
 
 pub returns-in-draw-clause-refused : goal.returns-in-draw-clause-refused
-returns-in-draw-clause-refused c =
+returns-in-draw-clause-refused g c =
     let rows : List Row = rows_of (found_of c.in-Some.options.now) in
     let found = found_is c.args.matches.now (codes "draw") rows (search (rules, c.in-draw.is, c.in-Some.ensures.name))
     c.in-Some.ensures.rows in
@@ -131,7 +131,7 @@ returns-in-draw-clause-refused c =
     c.draw_settings.ensures.none c.map-in-draw.ensures.cases
 
 pub returns-in_default-name-clause-refused : goal.returns-in_default-name-clause-refused
-returns-in_default-name-clause-refused c = λ s sets.
+returns-in_default-name-clause-refused g c = λ s sets.
     elim (names_one c.args.matches.now s sets) [
       | inl h ↦ c.in_default-name.not-sign (same_Some c.in-Some.name.now (codes "sign") (c.in-Some.ensures.name ∙ h))
       | inr (inl h) ↦ c.in_default-name.not-deliver (same_Some c.in-Some.name.now (codes "deliver") (c.in-Some.ensures.name ∙ h))
@@ -147,14 +147,14 @@ returns-in_default-name-clause-refused c = λ s sets.
     ]
 
 pub returns-in-sign-clause-right : goal.returns-in-sign-clause-right
-returns-in-sign-clause-right c =
+returns-in-sign-clause-right g c =
     let rows : List Row = rows_of (found_of c.in-Some.options.now) in
     let found = found_is c.args.matches.now (codes "sign") rows (search (rules, c.in-sign.is, c.in-Some.ensures.name))
     c.in-Some.ensures.rows in
     right_alike _ _ _ c.sign_settings.result c.map.result found c.sign_settings.ensures.right c.map.ensures.cases
 
 pub returns-in-deliver-clause-right : goal.returns-in-deliver-clause-right
-returns-in-deliver-clause-right c =
+returns-in-deliver-clause-right g c =
     let rows : List Row = rows_of (found_of c.in-Some.options.now) in
     let found = found_is c.args.matches.now (codes "deliver") rows (search (rules, c.in-deliver.is, c.in-Some.ensures.name))
     c.in-Some.ensures.rows in
@@ -162,7 +162,7 @@ returns-in-deliver-clause-right c =
     c.map-in-deliver.ensures.cases
 
 pub returns-in-simulate-clause-right : goal.returns-in-simulate-clause-right
-returns-in-simulate-clause-right c =
+returns-in-simulate-clause-right g c =
     let rows : List Row = rows_of (found_of c.in-Some.options.now) in
     let found = found_is c.args.matches.now (codes "simulate") rows (search (rules, c.in-simulate.is, c.in-Some.ensures.name))
     c.in-Some.ensures.rows in
@@ -170,7 +170,7 @@ returns-in-simulate-clause-right c =
     c.map-in-simulate.ensures.cases
 
 pub returns-in-cluster-clause-right : goal.returns-in-cluster-clause-right
-returns-in-cluster-clause-right c =
+returns-in-cluster-clause-right g c =
     let rows : List Row = rows_of (found_of c.in-Some.options.now) in
     let found = found_is c.args.matches.now (codes "cluster") rows (search (rules, c.in-cluster.is, c.in-Some.ensures.name))
     c.in-Some.ensures.rows in
@@ -179,28 +179,28 @@ returns-in-cluster-clause-right c =
     c.map-in-cluster.ensures.cases
 
 pub returns-in-serve-clause-right : goal.returns-in-serve-clause-right
-returns-in-serve-clause-right c =
+returns-in-serve-clause-right g c =
     let rows : List Row = rows_of (found_of c.in-Some.options.now) in
     let found = found_is c.args.matches.now (codes "serve") rows (search (rules, c.in-serve.is, c.in-Some.ensures.name))
     c.in-Some.ensures.rows in
     right_alike _ _ _ c.serve_settings.result c.map-in-serve.result found c.serve_settings.ensures.right c.map-in-serve.ensures.cases
 
 pub returns-in-audit-clause-right : goal.returns-in-audit-clause-right
-returns-in-audit-clause-right c =
+returns-in-audit-clause-right g c =
     let rows : List Row = rows_of (found_of c.in-Some.options.now) in
     let found = found_is c.args.matches.now (codes "audit") rows (search (rules, c.in-audit.is, c.in-Some.ensures.name))
     c.in-Some.ensures.rows in
     right_alike _ _ _ c.audit_settings.result c.map-in-audit.result found c.audit_settings.ensures.right c.map-in-audit.ensures.cases
 
 pub returns-in-draw-clause-right : goal.returns-in-draw-clause-right
-returns-in-draw-clause-right c =
+returns-in-draw-clause-right g c =
     let rows : List Row = rows_of (found_of c.in-Some.options.now) in
     let found = found_is c.args.matches.now (codes "draw") rows (search (rules, c.in-draw.is, c.in-Some.ensures.name))
     c.in-Some.ensures.rows in
     right_alike _ _ _ c.draw_settings.result c.map-in-draw.result found c.draw_settings.ensures.right c.map-in-draw.ensures.cases
 
 pub returns-in_default-name-clause-right : goal.returns-in_default-name-clause-right
-returns-in_default-name-clause-right c =
+returns-in_default-name-clause-right g c =
     let rows : List Row = rows_of (found_of c.in-Some.options.now) in
     let found = found_is c.args.matches.now c.in-Some.name.now rows c.in-Some.ensures.name c.in-Some.ensures.rows in
     subst IsNoSubcommand (sym found) (

@@ -1,7 +1,18 @@
 use Rattle.std.proofs.Common.{◌∙◌}
 use Rattle.byte_streams.proofs.Faults.{on_error}
+use Rattle.program.specs.Auditing.{Audited}
+use Rattle.program.proofs.HistoryOutputs.{done_nothing}
 use Rattle.program.proofs.AuditingLemmas.{part_written}
 use Rattle.program.proofs.auditing.audit_histories.Goals as goal
+
+pub returns-in_err-finding-clause-audits : goal.returns-in_err-finding-clause-audits
+returns-in_err-finding-clause-audits g c = on_error _ _ c.from_residual.ensures.0 (done_nothing (Audited c.args.settings.now) c.args.histories.now _)
+
+pub returns-in_err-text-clause-audits : goal.returns-in_err-text-clause-audits
+returns-in_err-text-clause-audits g c = on_error _ _ c.from_residual-in_err-text.ensures.0 (done_nothing (Audited c.args.settings.now) c.args.histories.now _)
+
+pub returns-in_err-explanation-clause-audits : goal.returns-in_err-explanation-clause-audits
+returns-in_err-explanation-clause-audits g c = on_error _ _ c.from_residual-in_err-explanation.ensures.0 (done_nothing (Audited c.args.settings.now) c.args.histories.now _)
 
 pub returns-in_err-write_output-clause-audits : goal.returns-in_err-write_output-clause-audits
 returns-in_err-write_output-clause-audits g c =

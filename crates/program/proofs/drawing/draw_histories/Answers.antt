@@ -1,7 +1,18 @@
 use Rattle.std.proofs.Common.{◌∙◌}
 use Rattle.byte_streams.proofs.Faults.{on_error}
+use Rattle.program.specs.Drawing.{Drawn}
+use Rattle.program.proofs.HistoryOutputs.{done_nothing}
 use Rattle.program.proofs.DrawingLemmas.{part_drawn}
 use Rattle.program.proofs.drawing.draw_histories.Goals as goal
+
+pub returns-in_err-picture-clause-draws : goal.returns-in_err-picture-clause-draws
+returns-in_err-picture-clause-draws g c = on_error _ _ c.from_residual.ensures.0 (done_nothing (Drawn c.args.settings.now) c.args.histories.now _)
+
+pub returns-in_err-svg-clause-draws : goal.returns-in_err-svg-clause-draws
+returns-in_err-svg-clause-draws g c = on_error _ _ c.from_residual-in_err-svg.ensures.0 (done_nothing (Drawn c.args.settings.now) c.args.histories.now _)
+
+pub returns-in_err-explanation-clause-draws : goal.returns-in_err-explanation-clause-draws
+returns-in_err-explanation-clause-draws g c = on_error _ _ c.from_residual-in_err-explanation.ensures.0 (done_nothing (Drawn c.args.settings.now) c.args.histories.now _)
 
 pub returns-in_err-write_output-clause-draws : goal.returns-in_err-write_output-clause-draws
 returns-in_err-write_output-clause-draws g c =

@@ -7,7 +7,7 @@ use Rattle.program.proofs.AnsweringLemmas.{answers_both, some_none, some_after}
 use Rattle.program.proofs.replica.start.Goals as goal
 
 pub returns-clause-answers : goal.returns-clause-answers
-returns-clause-answers c =
+returns-clause-answers g c =
     let s = c.args.settings.now in
     let same : c.in-Ok.value ≡ s.value = c.in-Ok.ensures ∙ c.as_bytes.ensures.bytes in
     let submitted = subst (λ b. AnswersEvents c.args.state.now (event.Submit b ∷ []) [] c.submit.new.state) same c.in_ok-submit.ensures.answers in
@@ -20,7 +20,7 @@ returns-clause-answers c =
     c.end_rounds.ensures.answers
 
 pub returns-in_err-propose-clause-answers : goal.returns-in_err-propose-clause-answers
-returns-in_err-propose-clause-answers c =
+returns-in_err-propose-clause-answers g c =
     let s = c.args.settings.now in
     let same : c.in-Ok.value ≡ s.value = c.in-Ok.ensures ∙ c.as_bytes.ensures.bytes in
     let submitted = subst (λ b. AnswersEvents c.args.state.now (event.Submit b ∷ []) [] c.submit.new.state) same c.in_ok-submit.ensures.answers in
@@ -29,8 +29,8 @@ returns-in_err-propose-clause-answers c =
     (some_after c.args.state.now _ _ (event.Submit s.value ∷ []) rest [] [] submitted (some_none _ _ rest c.in_err-propose.ensures.answers))
 
 pub returns-in_err-submit-clause-answers : goal.returns-in_err-submit-clause-answers
-returns-in_err-submit-clause-answers c =
+returns-in_err-submit-clause-answers g c =
     on_error _ _ c.from_residual.ensures.0 (some_none _ _ (starting c.args.settings.now) c.in_err-submit.ensures.answers)
 
 pub returns-in_default-clause-answers : goal.returns-in_default-clause-answers
-returns-in_default-clause-answers c = some_none _ _ (starting c.args.settings.now) (record { same = refl; least = omega arith })
+returns-in_default-clause-answers g c = some_none _ _ (starting c.args.settings.now) (record { same = refl; least = omega arith })

@@ -3,12 +3,12 @@ use Rattle.program.proofs.AnsweringLemmas.{still_full, taken_silently, submit_si
 use Rattle.program.proofs.replica.submit.Goals as goal
 
 pub returns-clause-answers : goal.returns-clause-answers
-returns-clause-answers c =
+returns-clause-answers g c =
     let told = c.apply-outcome.ensures in
     taken_silently c.args.state.now c.apply-outcome.new.self (event.Submit c.args.bytes) c.apply-outcome.result c.taken.result c.taken.ensures.same
     told.applied told.refused told.sound (submit_silent c.args.state.now c.args.bytes)
 
 pub returns-clause-cause : goal.returns-clause-cause
-returns-clause-cause c =
+returns-clause-cause g c =
     c.taken.ensures.cause c.apply-outcome.new.self.entries
     (still_full c.args.state.now c.apply-outcome.new.self (event.Submit c.args.bytes) c.apply-outcome.result c.apply-outcome.ensures.refused)
