@@ -40,6 +40,18 @@ runs 'the length in the tallest tree' 0 $'2537\n' "$report --tree 10 | wc -c"
 runs 'a report is accepted' 0 $'accepted\n' "$report | $deliver"
 runs 'and then repeated' 0 $'accepted\nignored 7 Repeated\n' "($report; $report) | $deliver"
 runs 'byte by byte' 0 $'accepted\n' "$report | dd bs=1 status=none | $deliver"
+# Each line is there while the input is still open: the next frame is written only once the line of the one before was read.
+at_once() {
+    coproc replica { eval "$deliver"; }
+    local line
+    for _ in 1 2 3; do
+        eval "$report" >&"${replica[1]}"
+        read -r -t 60 -u "${replica[0]}" line || return
+        echo "$line"
+    done
+}
+runs 'a line for each frame at once' 0 $'accepted\nignored 7 Repeated\nignored 7 Repeated\n' \
+    "report=${report@Q}; deliver=${deliver@Q}; $(declare -f at_once); at_once"
 runs 'a wide key' 0 $'accepted\n' "$report --w 8 | $deliver --w 8"
 runs 'a tall tree' 0 $'accepted\n' "$report --tree 10 | $deliver --tree 10"
 runs 'a wide key and a tall tree' 0 $'accepted\n' "$report --w 8 --tree 10 | $deliver --w 8 --tree 10"

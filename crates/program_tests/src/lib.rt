@@ -1,5 +1,5 @@
 //! Tests of scenario texts, of words and the settings that they give, of keys and frames; of the program on its words:
-//! its exit statuses, and what it writes about faults; and of its subcommands over streams, of which some fail.
+//! its exit statuses, and what it writes about faults; of its subcommands over streams, of which some fail; and of random keys.
 //! `tests/end_to_end.sh` tests the built program.
 #![tactic(auto)]
 
@@ -11,6 +11,8 @@ mod delivery_tests;
 mod fault_tests;
 #[cfg(test)]
 mod key_tests;
+#[cfg(test)]
+mod random_tests;
 #[cfg(test)]
 mod running_words;
 #[cfg(test)]
