@@ -62,12 +62,24 @@ runs 'a whole reply' 0 $'HTTP/1.1 200 OK\r\nContent-Type: application/json\r\nCo
     "curl -si $at/health"
 runs 'the page' 0 $'<!DOCTYPE html>\n' "curl -s $at/ | sed -n 1p"
 
+# Only 127.0.0.1 is served: curl can't connect to another address of the loopback range (its status 7).
+runs 'no connection at another address' 7 '' "curl -s 'http://127.0.0.2:$http/health'"
+
 # Transactions.
 runs 'a transaction for the pool' 0 $'0  3\n' "$ask fields '/broadcast_tx_sync?tx=\"b=2\"&replica=3' code data abft.replica"
 runs 'an empty one' 0 $'400 -32602 the transaction has no byte\n' "$ask error '/broadcast_tx_sync?tx=\"\"'"
 runs 'one of 65 bytes' 0 $'400 -32602 the transaction has more than 64 bytes\n' \
     "$ask error '/broadcast_tx_commit?tx=\"$(printf 'x%.0s' {1..65})\"'"
 runs 'no parameter' 0 $'400 -32602 the parameter tx is missing or wrong\n' "$ask error /broadcast_tx_commit"
+
+# An application outside of the ledger: each document is registered once, whatever else is in the blocks.
+one=$(printf one | sha256sum | cut -c1-64) two=$(printf two | sha256sum | cut -c1-64)
+for document in "$one" "$two" "$one"; do
+    $ask fields "/broadcast_tx_commit?tx=0x$document" height >"$room/registered" 2>&1
+done
+state=$(printf "\\x80$(printf '\\x00%.0s' {1..7})\\x02$(printf '%s' "$one$two" | sed 's/../\\x&/g')" | sha256sum | cut -c1-64)
+runs 'a follower registers documents' 0 "0 0 $one"$'\n'"0 1 $two"$'\n'"2 0 $one"$'\n'"state $state"$'\n' \
+    "timeout 60 examples/follower.py $http \$(cat '$room/registered') | sed -n 's/^[0-9]* \\([02] \\)/\\1/p; /^state/p'"
 
 # Prometheus.
 runs 'metrics of all replicas' 0 $'replicas: 0 1 2 3\n' "$ask metrics"
