@@ -7,8 +7,9 @@ use Rattle.cluster_service.specs.declared.protocol.Protocol.{Protocol}
 use Rattle.cluster_service.specs.declared.protocol.Protocol.TheVariants as protocol
 use Rattle.cluster_service.specs.Replicas.{all_begun}
 
--- The workers that ran are those of all replicas of the cluster; as they began, each had ended no round, and was to end as many as the
--- settings say. The clock had the settings' base time, and each replica began with their transaction in its pool.
+-- One worker ran for each replica's number; as they began, each had ended no round, and was to end as many as the settings say. That they
+-- are the workers of the cluster beside them isn't said. The clock had the settings' base time, and each replica began with their
+-- transaction in its pool.
 pub record IsRunOf (s : ClusterSettings) (run : EndedRunView) : Type 0 where
   pub workers : AreWorkersOf s.cluster.config.replicas s.cluster.config.frames s.rounds run.workers
   pub base_ms : run.base_ms ≡ s.base_ms
