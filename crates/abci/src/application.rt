@@ -5,13 +5,19 @@ use std::alloc::AllocError;
 
 /// An application behind ABCI's calls.
 ///
-/// Its meaning is a state machine: its kind, its committed state and height and, within a block, its working state. The contract of
-/// a call says what that machine returns and how it changes. A state is described by the accepted transactions that lead to it.
+/// An application brings its meaning: what it answers after the transactions that it accepted. It is a state machine: its
+/// kind, its committed state and height and, within a block, its working state. The contract of a call says what that
+/// machine returns and how it changes. A state is described by the accepted transactions that lead to it.
 pub trait Application: Drop {
     ghost use Rattle.std.specs.Prelude.{◌≡◌, ◌≢◌, ◌+◌, ◌↔◌, IsSome, IfOk, OnOk, OnErr, IsErrOf, option_map};
     ghost use Rattle.ledger_model.specs.Applications.{Machine};
+    ghost use Rattle.ledger_model.specs.Meanings.{Meanings};
     ghost use Rattle.abci.specs.Meaning.{ShowsOf, ChecksTo, StartsBlock, KeepsCommitted, DeliversTo, CommitsTo, AnswersTo, LosesWork};
 
+    // What an application of each kind means. An application that is not chosen among kinds means the same for each.
+    ghost meaning: { Meanings };
+
+    // The state machine that it is.
     ghost machine: { Self → Machine };
 
     /// ABCI's Info: the committed height, and the hash of the committed state.
@@ -25,7 +31,7 @@ pub trait Application: Drop {
 
     /// ABCI's CheckTx: the code of a transaction in the committed state, 0 if the pool may keep it.
     fn check_tx(&self, tx: &Tx, kind: CheckKind) -> u32
-        ensures { ChecksTo (machine self.now) tx.now result };
+        ensures { ChecksTo meaning (machine self.now) tx.now result };
 
     /// ABCI's BeginBlock: the working state becomes a copy of the committed one; an unfinished working state is
     /// dropped. After allocation failure the committed state and the height are unchanged.
@@ -39,7 +45,7 @@ pub trait Application: Drop {
     fn deliver_tx(&mut self, tx: &Tx) -> Result<u32, AllocError>
         requires { IsSome (machine self.old).working }
         ensures goes_on { OnOk result (KeepsCommitted (machine self.old) (machine self.new)) }
-        ensures ok { IfOk result (λ code. DeliversTo (machine self.old) tx.now code (machine self.new)) }
+        ensures ok { IfOk result (λ code. DeliversTo meaning (machine self.old) tx.now code (machine self.new)) }
         ensures err { OnErr result (LosesWork (machine self.old) (machine self.new)) };
 
     /// ABCI's EndBlock. After allocation failure the committed state and the height are unchanged.
@@ -57,7 +63,7 @@ pub trait Application: Drop {
     ///
     /// `NotHeld` comes exactly if the height is neither 0 nor the committed one.
     fn query(&self, key: &[u8], height: u32) -> Result<Option<Vec<u8>>, QueryFault>
-        ensures answer { IfOk result (λ value. AnswersTo (machine self.now) key.now (option_map (λ v. v.items) value)) }
+        ensures answer { IfOk result (λ value. AnswersTo meaning (machine self.now) key.now (option_map (λ v. v.items) value)) }
         ensures not_held { IsErrOf result QueryFault.NotHeld
             ↔ (height ≢ 0) × (height ≢ (machine self.now).height) };
 }

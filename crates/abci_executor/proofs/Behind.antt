@@ -1,26 +1,25 @@
 -- Transactions that follow others: which of them are accepted, and their codes.
 use Rattle.std.proofs.Common.{◌≡◌, ℕ, List, [], ◌∷◌, ◌++◌, refl, ap}
 use Rattle.std.specs.Prelude.{◌==◌, if◌then◌else◌}
-use Rattle.ledger_model.specs.declared.config.AppKind.{AppKind}
-use Rattle.ledger_model.specs.Applications.{accepted, codes, code_after}
+use Rattle.ledger_model.specs.Meanings.{Meaning, accepted_by, codes_by}
 
 -- what is accepted of transactions after others
-pub accepted-append : (kind : AppKind) (done xs ys : List (List ℕ))
-    → accepted kind done (xs ++ ys) ≡ accepted kind (accepted kind done xs) ys
-unfolding accepted
-accepted-append kind done [] ys = refl
-accepted-append kind done (x ∷ xs) ys = accepted-append kind (if code_after kind done x == 0 then done ++ x ∷ [] else done) xs ys
+pub accepted-append : (m : Meaning) (done xs ys : List (List ℕ))
+    → accepted_by m done (xs ++ ys) ≡ accepted_by m (accepted_by m done xs) ys
+unfolding accepted_by
+accepted-append m done [] ys = refl
+accepted-append m done (x ∷ xs) ys = accepted-append m (if m.code done x == 0 then done ++ x ∷ [] else done) xs ys
 
 -- the codes of transactions after others
-pub codes-append : (kind : AppKind) (done xs ys : List (List ℕ))
-    → codes kind done (xs ++ ys) ≡ codes kind done xs ++ codes kind (accepted kind done xs) ys
-unfolding accepted codes
-codes-append kind done [] ys = refl
-codes-append kind done (x ∷ xs) ys =
-    ap (λ cs. code_after kind done x ∷ cs) (codes-append kind (if code_after kind done x == 0 then done ++ x ∷ [] else done) xs ys)
+codes-append : (m : Meaning) (done xs ys : List (List ℕ))
+    → codes_by m done (xs ++ ys) ≡ codes_by m done xs ++ codes_by m (accepted_by m done xs) ys
+unfolding accepted_by codes_by
+codes-append m done [] ys = refl
+codes-append m done (x ∷ xs) ys =
+    ap (λ cs. m.code done x ∷ cs) (codes-append m (if m.code done x == 0 then done ++ x ∷ [] else done) xs ys)
 
 -- the codes of one more transaction
-pub codes-snoc : (kind : AppKind) (done xs : List (List ℕ)) (tx : List ℕ)
-    → codes kind done (xs ++ tx ∷ []) ≡ codes kind done xs ++ code_after kind (accepted kind done xs) tx ∷ []
-unfolding codes
-codes-snoc kind done xs tx = codes-append kind done xs (tx ∷ [])
+pub codes-snoc : (m : Meaning) (done xs : List (List ℕ)) (tx : List ℕ)
+    → codes_by m done (xs ++ tx ∷ []) ≡ codes_by m done xs ++ m.code (accepted_by m done xs) tx ∷ []
+unfolding codes_by
+codes-snoc m done xs tx = codes-append m done xs (tx ∷ [])

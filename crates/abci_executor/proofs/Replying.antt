@@ -1,4 +1,5 @@
 -- The reply to a query, from the application's answer.
+use Rattle.ledger_model.specs.Meanings.{Meanings}
 use Rattle.std.proofs.Common.{◌≡◌, ◌≢◌, ℕ, Bool, true, false, List, refl, ap}
 use Rattle.std.specs.Prelude.{◌==◌, not, ◌&&◌, Option, Ok, Err, IfSome}
 use Rattle.std.proofs.lemmas.Bool.{eqb-false, ne_eqb}
@@ -22,11 +23,12 @@ is_another : (h n : ℕ) → (h ≢ 0) × (h ≢ n) → (not (h == 0) && not (h 
 is_another h n other = rw (ne_eqb h 0 (other.0), ne_eqb h n (other.1)) refl
 
 -- a value that is held
-pub replies_held : (m : Machine) (key : List ℕ) (height told : ℕ) (value : Option (List ℕ)) → AnswersTo m key value
+pub replies_held : (meaning : Meanings) (m : Machine) (key : List ℕ) (height told : ℕ) (value : Option (List ℕ))
+    → AnswersTo meaning m key value
     → ((height ≢ 0) × (height ≢ m.height) → ⊥) → told ≡ m.height
-    → IsQueryReply (without_work m) key height (Ok (record { height = told; value = value }))
+    → IsQueryReply meaning (without_work m) key height (Ok (record { height = told; value = value }))
 unfolding run query_reply
-replies_held m key height told value answers held last =
+replies_held meaning m key height told value answers held last =
     λ batches led.
     let test = is_held height m.height held in
     let at = ap (λ (n : Machine). n.height) led in
@@ -34,12 +36,13 @@ replies_held m key height told value answers held last =
     rw (← at, test, last, same) refl
 
 -- a fault
-pub replies_fault : (m : Machine) (key : List ℕ) (height : ℕ) (f : QueryFault) → ((f ≡ fault.NotHeld) → (height ≢ 0) × (height ≢ m.height))
-    → IfSome (query_answer_of (Err f)) (IsQueryReply (without_work m) key height)
+pub replies_fault : (meaning : Meanings) (m : Machine) (key : List ℕ) (height : ℕ) (f : QueryFault)
+    → ((f ≡ fault.NotHeld) → (height ≢ 0) × (height ≢ m.height))
+    → IfSome (query_answer_of (Err f)) (IsQueryReply meaning (without_work m) key height)
 unfolding run query_reply
-replies_fault m key height fault.NotHeld other =
+replies_fault meaning m key height fault.NotHeld other =
     λ batches led.
     let test = is_another height m.height (other refl) in
     let at = ap (λ (n : Machine). n.height) led in
     rw (← at, test) refl
-replies_fault m key height fault.NoMemory other = tt
+replies_fault meaning m key height fault.NoMemory other = tt

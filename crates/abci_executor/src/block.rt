@@ -19,7 +19,7 @@ pub fn run_block<A: Application>(
     batch: &Batch,
 ) -> Result<BlockResult, AllocError>
     requires low { (A.machine app.old).height < max_height }
-    ensures ok { IfOk result (λ block. AddsBlock (without_work (A.machine app.old)) batch.now block (A.machine app.new)) }
+    ensures ok { IfOk result (λ block. AddsBlock A.meaning (without_work (A.machine app.old)) batch.now block (A.machine app.new)) }
     ensures err { OnErr result (LosesWork (A.machine app.old) (A.machine app.new)) }
 {
     let room = Vec::with_capacity(alloc, batch.transactions().len())?;
@@ -44,7 +44,7 @@ fn deliver_all<A: Application>(
     requires begun { (A.machine app.old).working ≡ Some (A.machine app.old).committed }
     requires empty { room.items ≡ [] }
     ensures goes_on { OnOk result (KeepsCommitted (A.machine app.old) (A.machine app.new)) }
-    ensures ok { IfOk result (λ codes. DeliversAll (A.machine app.old) transactions.now codes (A.machine app.new)) }
+    ensures ok { IfOk result (λ codes. DeliversAll A.meaning (A.machine app.old) transactions.now codes (A.machine app.new)) }
     ensures err { OnErr result (LosesWork (A.machine app.old) (A.machine app.new)) }
 {
     let mut codes = room;

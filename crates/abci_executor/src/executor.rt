@@ -30,14 +30,14 @@ impl<A: Application> Model for Executor<A> {
 
     ghost view = { λ e. without_work (A.machine e.app) };
 
-    ghost invariant = { λ e. IsReached (without_work (A.machine e.app)) };
+    ghost invariant = { λ e. IsReached A.meaning (without_work (A.machine e.app)) };
 }
 
 impl<A: Application> Executor<A> {
     /// Starts an application that has run no block, with InitChain. The only error is allocation failure.
     pub fn new(app: A) -> Result<Self, AllocError>
-        requires { A.machine app ≡ run (A.machine app).kind [] }
-        ensures { IfOk result (λ e. e ≡ run (A.machine app).kind []) }
+        requires { A.machine app ≡ run A.meaning (A.machine app).kind [] }
+        ensures { IfOk result (λ e. e ≡ run A.meaning (A.machine app).kind []) }
     {
         let mut app = app;
         app.init_chain()?;
@@ -49,7 +49,7 @@ impl<A: Application> Executor<A> {
     /// The only error is allocation failure. It leaves the executor as it was.
     pub fn execute(&mut self, alloc: Global, batch: &Batch) -> Result<BlockResult, AllocError>
         requires { self.old.height < max_height }
-        ensures ok { IfOk result (λ block. AddsBlock self.old batch.now block self.new) }
+        ensures ok { IfOk result (λ block. AddsBlock A.meaning self.old batch.now block self.new) }
         ensures err { OnErr result (self.new ≡ self.old) }
     {
         run_block(alloc, &mut self.app, batch)
@@ -59,7 +59,7 @@ impl<A: Application> Executor<A> {
     ///
     /// `NotHeld` comes exactly if the height is neither; `NoMemory` comes if memory runs out.
     pub fn query(&self, key: &[u8], height: u32) -> Result<QueryAnswer, QueryFault>
-        ensures reply { IfSome (query_answer_of result) (IsQueryReply self.now key.now height) }
+        ensures reply { IfSome (query_answer_of result) (IsQueryReply A.meaning self.now key.now height) }
         ensures not_held { IsErrOf result QueryFault.NotHeld ↔ (height ≢ 0) × (height ≢ self.now.height) }
     {
         let held = self.app.query(key, height)?;
@@ -73,7 +73,7 @@ impl<A: Application> Executor<A> {
     pub fn height(&self) -> u32
         ensures height { result ≡ self.now.height }
         // Some blocks led to the machine.
-        ensures reached { IsReached self.now }
+        ensures reached { IsReached A.meaning self.now }
     {
         let info = self.app.info();
         info.height
@@ -81,7 +81,7 @@ impl<A: Application> Executor<A> {
 
     /// The number of blocks that were run, and the hash of the state.
     pub fn info(&self) -> Info
-        ensures { ShowsBlocks self.now result }
+        ensures { ShowsBlocks A.meaning self.now result }
     {
         self.app.info()
     }

@@ -1,4 +1,5 @@
 -- Which event a step stands for: which replicas it may name, and why it is refused.
+use Rattle.ledger_model.specs.Meanings.{Meanings}
 use Rattle.std.proofs.Common.{◌≡◌, ℕ, zero, suc, ◌<◌, ◌≤◌, inr, Bool, true, false, not, ◌&&◌, cond, List, [], ◌∷◌, length, refl, sym, ap}
 use Rattle.std.proofs.Common.{subst, ◌∙◌, arith}
 use Rattle.std.specs.Prelude.{nat_lt, nat_le, Option, Some, None, is_some, Result, Ok, Err, MatchBool, slice_get, option_map}
@@ -23,25 +24,28 @@ use Rattle.ledger_model.specs.Limits.{max_history_len}
 
 -- ---- which replicas there are
 
-pub its_history : (c : WorldView) (r : ℕ) → IsCluster c → history_of (world_of c).histories r ≡ option_map history_in (state_at c r)
-its_history c r cluster = history_at c.parties r (λ j s is. (cluster.members j s is).id)
+pub its_history : (meaning : Meanings) (c : WorldView) (r : ℕ) → IsCluster meaning c
+    → history_of (world_of c).histories r ≡ option_map history_in (state_at c r)
+its_history meaning c r cluster = history_at c.parties r (λ j s is. (cluster.members j s is).id)
 
 -- the entries of a correct replica
-pub its_entries : (c : WorldView) (r : ℕ) (s : StateView) → IsCluster c → state_at c r ≡ Some s → entries_in (world_of c) r ≡ s.entries
-its_entries c r s cluster is =
-    let found : history_of (world_of c).histories r ≡ Some (history_in s) = its_history c r cluster ∙ ap (option_map history_in) is in
+pub its_entries : (meaning : Meanings) (c : WorldView) (r : ℕ) (s : StateView) → IsCluster meaning c → state_at c r ≡ Some s
+    → entries_in (world_of c) r ≡ s.entries
+its_entries meaning c r s cluster is =
+    let found : history_of (world_of c).histories r ≡ Some (history_in s) = its_history meaning c r cluster
+    ∙ ap (option_map history_in) is in
     simp found
 
 -- who is no correct replica has no entries
-pub no_entries : (c : WorldView) (r : ℕ) → IsCluster c → state_at c r ≡ None → entries_in (world_of c) r ≡ []
-no_entries c r cluster is =
-    let none : history_of (world_of c).histories r ≡ None = its_history c r cluster ∙ ap (option_map history_in) is in
+pub no_entries : (meaning : Meanings) (c : WorldView) (r : ℕ) → IsCluster meaning c → state_at c r ≡ None → entries_in (world_of c) r ≡ []
+no_entries meaning c r cluster is =
+    let none : history_of (world_of c).histories r ≡ None = its_history meaning c r cluster ∙ ap (option_map history_in) is in
     simp none
 
 -- the correct replicas are those with a state
-pub known : (c : WorldView) (r : ℕ) (o : Option StateView) → IsCluster c → state_at c r ≡ o
+pub known : (meaning : Meanings) (c : WorldView) (r : ℕ) (o : Option StateView) → IsCluster meaning c → state_at c r ≡ o
     → is_correct (world_of c).histories r ≡ is_some o
-known c r o cluster is = ap is_some (its_history c r cluster ∙ ap (option_map history_in) is) ∙ some o
+known meaning c r o cluster is = ap is_some (its_history meaning c r cluster ∙ ap (option_map history_in) is) ∙ some o
   where
     some : (x : Option StateView) → is_some (option_map history_in x) ≡ is_some x
     some None = refl
@@ -57,44 +61,46 @@ fault_from : (config : Config) (w : World) (r : ℕ) (b : Bool) → nat_lt r con
 fault_from config w r b near is = rw (near, is) refl
 
 -- a step may name the correct replicas alone
-pub fault_is : (c : WorldView) (r : ℕ) → IsCluster c → (o : Option (Party StateView)) → slice_get c.parties r ≡ o
+pub fault_is : (meaning : Meanings) (c : WorldView) (r : ℕ) → IsCluster meaning c → (o : Option (Party StateView))
+    → slice_get c.parties r ≡ o
     → fault_at c.config (world_of c) r ≡ fault_in o
-fault_is c r cluster None at =
+fault_is meaning c r cluster None at =
     let far : nat_lt r c.config.replicas ≡ false = le-ltb r c.config.replicas (omega (arith, get_none c.parties r at, cluster.size)) in
     rw far refl
-fault_is c r cluster (Some (party.Correct s)) at =
+fault_is meaning c r cluster (Some (party.Correct s)) at =
     let near : nat_lt r c.config.replicas ≡ true =
     lt-ltb r c.config.replicas (omega (arith, slice_get_within c.parties r (party.Correct s) at, cluster.size)) in
     fault_from c.config (world_of c) r true near
-    (ap is_some (its_history c r cluster) ∙ ap (λ o. is_some (option_map history_in (option_and_then state_in o))) at)
-fault_is c r cluster (Some (party.Liar keys)) at =
+    (ap is_some (its_history meaning c r cluster) ∙ ap (λ o. is_some (option_map history_in (option_and_then state_in o))) at)
+fault_is meaning c r cluster (Some (party.Liar keys)) at =
     let near : nat_lt r c.config.replicas ≡ true =
     lt-ltb r c.config.replicas (omega (arith, slice_get_within c.parties r (party.Liar keys) at, cluster.size)) in
     fault_from c.config (world_of c) r false near
-    (ap is_some (its_history c r cluster) ∙ ap (λ o. is_some (option_map history_in (option_and_then state_in o))) at)
+    (ap is_some (its_history meaning c r cluster) ∙ ap (λ o. is_some (option_map history_in (option_and_then state_in o))) at)
 
 -- ---- why a step is refused
 
-pub refuses : (c : WorldView) (asked : Result (ℕ × Event) WorldRefusal) (f : WorldRefusal) → asked ≡ Err f → Refused c asked f
-refuses c asked f is = subst (λ o. Refused c o f) (sym is) (refl, refl)
+pub refuses : (meaning : Meanings) (c : WorldView) (asked : Result (ℕ × Event) WorldRefusal) (f : WorldRefusal) → asked ≡ Err f
+    → Refused meaning c asked f
+refuses meaning c asked f is = subst (λ o. Refused meaning c o f) (sym is) (refl, refl)
 
-pub full : (c : WorldView) (asked : Result (ℕ × Event) WorldRefusal) (r : ℕ) (e : Event) → asked ≡ Ok (r, e)
-    → max_history_len ≤ length (entries_in (world_of c) r) → Refused c asked refused.HistoryFull
-full c asked r e is le =
+pub full : (meaning : Meanings) (c : WorldView) (asked : Result (ℕ × Event) WorldRefusal) (r : ℕ) (e : Event) → asked ≡ Ok (r, e)
+    → max_history_len ≤ length (entries_in (world_of c) r) → Refused meaning c asked refused.HistoryFull
+full meaning c asked r e is le =
     let no_room : nat_le max_history_len (length (entries_in (world_of c) r)) ≡ true =
     le-leb max_history_len (length (entries_in (world_of c) r)) le in
-    subst (λ o. Refused c o refused.HistoryFull) (sym is)
+    subst (λ o. Refused meaning c o refused.HistoryFull) (sym is)
     (subst (λ b. MatchBool b (Refuses (world_of c) refused.HistoryFull (answer.Refused refused.HistoryFull) (world_of c))
-    (Adds c.config c.ring (world_of c) r e (answer.Refused refused.HistoryFull) (world_of c))) (sym no_room) (refl, refl))
+    (Adds meaning c.config c.ring (world_of c) r e (answer.Refused refused.HistoryFull) (world_of c))) (sym no_room) (refl, refl))
 
-pub no_memory : (c : WorldView) (asked : Result (ℕ × Event) WorldRefusal) (r : ℕ) (e : Event) → IsReady c asked r e
-    → Refused c asked refused.NoMemory
-no_memory c asked r e ready =
+pub no_memory : (meaning : Meanings) (c : WorldView) (asked : Result (ℕ × Event) WorldRefusal) (r : ℕ) (e : Event) → IsReady c asked r e
+    → Refused meaning c asked refused.NoMemory
+no_memory meaning c asked r e ready =
     let room : nat_le max_history_len (length (entries_in (world_of c) r)) ≡ false =
     lt-leb max_history_len (length (entries_in (world_of c) r)) ready.room in
-    subst (λ o. Refused c o refused.NoMemory) (sym ready.is)
+    subst (λ o. Refused meaning c o refused.NoMemory) (sym ready.is)
     (subst (λ b. MatchBool b (Refuses (world_of c) refused.HistoryFull (answer.Refused refused.NoMemory) (world_of c))
-    (Adds c.config c.ring (world_of c) r e (answer.Refused refused.NoMemory) (world_of c))) (sym room) (inr (refl, refl)))
+    (Adds meaning c.config c.ring (world_of c) r e (answer.Refused refused.NoMemory) (world_of c))) (sym room) (inr (refl, refl)))
 
 -- ---- one replica
 

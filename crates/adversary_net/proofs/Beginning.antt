@@ -1,4 +1,5 @@
 -- A cluster at its start satisfies the invariants of a running cluster.
+use Rattle.ledger_model.specs.Meanings.{Meanings}
 use Rattle.std.proofs.Common.{◌≡◌, ℕ, zero, suc, ◌+◌, ◌-◌, ◌<◌, ◌≤◌, inl, inr, Bool, true, false, not, ◌||◌, cond, List, [], ◌∷◌, length}
 use Rattle.std.proofs.Common.{map, take, drop, refl, sym, ap, subst, ◌∙◌, arith, length-drop}
 use Rattle.std.specs.Prelude.{nat_eq, nat_le, filter, All, Any, Option, Some, None, slice_get, slice_index_or, option_map, option_and_then}
@@ -140,8 +141,8 @@ correct_replicas config liars few = record {
 
 -- ---- the world as it begins
 
-module _ (config : Config) (ring : Ring) (secrets : ℕ → Secret) (liars : List ℕ) where
-  begins : (rs : List ℕ) → map history_in (filter_map state_in (map (new_party config ring secrets liars) rs))
+module _ (meaning : Meanings) (config : Config) (ring : Ring) (secrets : ℕ → Secret) (liars : List ℕ) where
+  begins : (rs : List ℕ) → map history_in (filter_map state_in (map (new_party meaning config ring secrets liars) rs))
       ≡ map no_entries (filter (λ r. not (is_liar liars r)) rs)
   begins [] = refl
   begins (r ∷ rs) =
@@ -151,7 +152,7 @@ module _ (config : Config) (ring : Ring) (secrets : ℕ → Secret) (liars : Lis
         | inr honest ↦ rw honest (ap (λ hs. no_entries r ∷ hs) rest)
       ]
 
-  numbers : (rs : List ℕ) → map (λ (s : StateView). s.id) (filter_map state_in (map (new_party config ring secrets liars) rs))
+  numbers : (rs : List ℕ) → map (λ (s : StateView). s.id) (filter_map state_in (map (new_party meaning config ring secrets liars) rs))
       ≡ filter (λ r. not (is_liar liars r)) rs
   numbers [] = refl
   numbers (r ∷ rs) =
@@ -161,27 +162,29 @@ module _ (config : Config) (ring : Ring) (secrets : ℕ → Secret) (liars : Lis
         | inr honest ↦ rw honest (ap (λ ns. r ∷ ns) rest)
       ]
 
-  new_state : (r : ℕ) (s : StateView) → state_in (new_party config ring secrets liars r) ≡ Some s → s ≡ new_replica config ring secrets r
+  new_state : (r : ℕ) (s : StateView) → state_in (new_party meaning config ring secrets liars r) ≡ Some s
+      → s ≡ new_replica meaning config ring secrets r
   new_state r s is =
       elim (cases_Bool (is_liar liars r)) [
         | inl lies ↦ absurd (let no = rw lies at is in cc)
-        | inr honest ↦ sym (same_Some (new_replica config ring secrets r) s (rw honest at is))
+        | inr honest ↦ sym (same_Some (new_replica meaning config ring secrets r) s (rw honest at is))
       ]
 
-pub new_world : (config : Config) (secrets : ℕ → Secret) (liars : List ℕ)
-    → world_of (new_cluster config secrets liars) ≡ beginning (correct_without config liars)
-new_world config secrets liars =
+pub new_world : (meaning : Meanings) (config : Config) (secrets : ℕ → Secret) (liars : List ℕ)
+    → world_of (new_cluster meaning config secrets liars) ≡ beginning (correct_without config liars)
+new_world meaning config secrets liars =
     ap (λ (hs : List History). record { histories = hs; order = [] })
-    (begins config (ring_with config secrets) secrets liars (range_with_len 0 config.replicas))
+    (begins meaning config (ring_with config secrets) secrets liars (range_with_len 0 config.replicas))
 
-pub new_correct : (config : Config) (secrets : ℕ → Secret) (liars : List ℕ)
-    → correct_of (new_cluster config secrets liars) ≡ correct_without config liars
-new_correct config secrets liars = numbers config (ring_with config secrets) secrets liars (range_with_len 0 config.replicas)
+pub new_correct : (meaning : Meanings) (config : Config) (secrets : ℕ → Secret) (liars : List ℕ)
+    → correct_of (new_cluster meaning config secrets liars) ≡ correct_without config liars
+new_correct meaning config secrets liars = numbers meaning config (ring_with config secrets) secrets liars
+    (range_with_len 0 config.replicas)
 
-new_member : (config : Config) (secrets : ℕ → Secret) (liars : List ℕ) (r : ℕ)
-    → IsMemberAt (new_cluster config secrets liars) r (new_replica config (ring_with config secrets) secrets r)
+new_member : (meaning : Meanings) (config : Config) (secrets : ℕ → Secret) (liars : List ℕ) (r : ℕ)
+    → IsMemberAt meaning (new_cluster meaning config secrets liars) r (new_replica meaning config (ring_with config secrets) secrets r)
 unfolding Replay ReplaysFrom commits_of
-new_member config secrets liars r =
+new_member meaning config secrets liars r =
     record {
       config = refl;
       ring = refl;
@@ -202,30 +205,31 @@ some_party None s is = cc
 some_party (Some p) s is = (p, (refl, is))
 
 -- each correct replica is a new one
-new_at : (config : Config) (secrets : ℕ → Secret) (liars : List ℕ) (r : ℕ) (s : StateView)
-    → state_at (new_cluster config secrets liars) r ≡ Some s
-    → s ≡ new_replica config (ring_with config secrets) secrets r
-new_at config secrets liars r s is =
+new_at : (meaning : Meanings) (config : Config) (secrets : ℕ → Secret) (liars : List ℕ) (r : ℕ) (s : StateView)
+    → state_at (new_cluster meaning config secrets liars) r ≡ Some s
+    → s ≡ new_replica meaning config (ring_with config secrets) secrets r
+new_at meaning config secrets liars r s is =
     let ring = ring_with config secrets in
-    let own = some_party (slice_get (map (new_party config ring secrets liars) (range_with_len 0 config.replicas)) r) s is in
-    let from = mapped (new_party config ring secrets liars) (slice_get (range_with_len 0 config.replicas) r) (own.0)
-    (sym (slice_get-map (new_party config ring secrets liars) (range_with_len 0 config.replicas) r) ∙ own.1.0) in
+    let own = some_party (slice_get (map (new_party meaning config ring secrets liars) (range_with_len 0 config.replicas)) r) s is in
+    let from = mapped (new_party meaning config ring secrets liars) (slice_get (range_with_len 0 config.replicas) r) (own.0)
+    (sym (slice_get-map (new_party meaning config ring secrets liars) (range_with_len 0 config.replicas) r) ∙ own.1.0) in
     let number : from.0 ≡ r = let e = (get_range 0 config.replicas r (from.0) (from.1.0)).0 in omega (arith, e) in
-    new_state config ring secrets liars r s
-    (subst (λ k. state_in (new_party config ring secrets liars k) ≡ Some s) number (ap state_in (from.1.1) ∙ own.1.1))
+    new_state meaning config ring secrets liars r s
+    (subst (λ k. state_in (new_party meaning config ring secrets liars k) ≡ Some s) number (ap state_in (from.1.1) ∙ own.1.1))
 
-pub new_is_cluster : (config : Config) (secrets : ℕ → Secret) (liars : List ℕ) → different liars ≤ config.faults
-    → IsCluster (new_cluster config secrets liars)
+pub new_is_cluster : (meaning : Meanings) (config : Config) (secrets : ℕ → Secret) (liars : List ℕ) → different liars ≤ config.faults
+    → IsCluster meaning (new_cluster meaning config secrets liars)
 unfolding Runs
-new_is_cluster config secrets liars few = record {
-  size = length-map-range_with_len (new_party config (ring_with config secrets) secrets liars) 0 config.replicas;
-  members = λ r s is. subst (IsMemberAt (new_cluster config secrets liars) r) (sym (new_at config secrets liars r s is))
-      (new_member config secrets liars r);
-  replicas = subst (AreReplicas config) (sym (new_correct config secrets liars)) (correct_replicas config liars few);
+new_is_cluster meaning config secrets liars few = record {
+  size = length-map-range_with_len (new_party meaning config (ring_with config secrets) secrets liars) 0 config.replicas;
+  members = λ r s is. subst (IsMemberAt meaning (new_cluster meaning config secrets liars) r)
+      (sym (new_at meaning config secrets liars r s is))
+      (new_member meaning config secrets liars r);
+  replicas = subst (AreReplicas config) (sym (new_correct meaning config secrets liars)) (correct_replicas config liars few);
   ran = record {
     steps = [];
     answers = [];
-    runs = new_world config secrets liars ∙ ap beginning (sym (new_correct config secrets liars));
+    runs = new_world meaning config secrets liars ∙ ap beginning (sym (new_correct meaning config secrets liars));
   };
 }
 
@@ -270,35 +274,39 @@ correct_left liars a n lt =
     ]
 
 -- the first of what there is is taken
-pub first_app : {A R : Type 0} (machine : A → Machine) (config : Config) (n : ℕ) (apps left : List A) (randoms : List R) (a : A)
-    → IsSupply machine config n apps randoms → apps ≡ a ∷ left → machine a ≡ run config.kind []
-first_app machine config n apps left randoms a supply is =
-    All-head (λ x. machine x ≡ run config.kind []) a left
-    (All-same (λ x. machine x ≡ run config.kind []) (a ∷ left) apps (sym is) supply.opening)
+pub first_app : (meaning : Meanings) → {A R : Type 0} (machine : A → Machine) (config : Config) (n : ℕ) (apps left : List A)
+    (randoms : List R) (a : A)
+    → IsSupply meaning machine config n apps randoms → apps ≡ a ∷ left → machine a ≡ run meaning config.kind []
+first_app meaning machine config n apps left randoms a supply is =
+    All-head (λ x. machine x ≡ run meaning config.kind []) a left
+    (All-same (λ x. machine x ≡ run meaning config.kind []) (a ∷ left) apps (sym is) supply.opening)
 
-pub supply_left : {A R : Type 0} (machine : A → Machine) (config : Config) (n : ℕ) (apps left : List A) (randoms others : List R) (a : A)
-    (r : R) → IsSupply machine config n apps randoms
-    → apps ≡ a ∷ left → randoms ≡ r ∷ others → IsSupply machine config (n - 1) left others
-supply_left machine config n apps left randoms others a r supply is too = record {
+pub supply_left : (meaning : Meanings) → {A R : Type 0} (machine : A → Machine) (config : Config) (n : ℕ) (apps left : List A)
+    (randoms others : List R) (a : A)
+    (r : R) → IsSupply meaning machine config n apps randoms
+    → apps ≡ a ∷ left → randoms ≡ r ∷ others → IsSupply meaning machine config (n - 1) left others
+supply_left meaning machine config n apps left randoms others a r supply is too = record {
   an_app = omega (arith, supply.an_app, ap length is);
   a_pair = omega (arith, supply.a_pair, ap length too);
-  opening = All-rest (λ x. machine x ≡ run config.kind []) a left apps is supply.opening;
+  opening = All-rest (λ x. machine x ≡ run meaning config.kind []) a left apps is supply.opening;
 }
 
 -- what was made is the new cluster
-pub new_is : (config : Config) (secrets : ℕ → Secret) (liars : List ℕ) (ring : Ring) (parties : List (Party StateView)) (order : List ℕ)
+pub new_is : (meaning : Meanings) (config : Config) (secrets : ℕ → Secret) (liars : List ℕ) (ring : Ring) (parties : List (Party StateView))
+    (order : List ℕ)
     → ring ≡ ring_with config secrets
-    → parties ≡ map (new_party config ring secrets liars) (range_with_len 0 config.replicas) → order ≡ []
-    → ◌≡◌ {A = WorldView} (record { config = config; ring = ring; parties = parties; order = order }) (new_cluster config secrets liars)
-new_is config secrets liars ring parties order keys made none =
+    → parties ≡ map (new_party meaning config ring secrets liars) (range_with_len 0 config.replicas) → order ≡ []
+    → ◌≡◌ {A = WorldView} (record { config = config; ring = ring; parties = parties; order = order })
+    (new_cluster meaning config secrets liars)
+new_is meaning config secrets liars ring parties order keys made none =
     ap (λ (l : Ring). record { config = config; ring = l; parties = parties; order = order }) keys
     ∙ ap (λ (ps : List (Party StateView)). record { config = config; ring = ring_with config secrets; parties = ps; order = order })
-    (made ∙ ap (λ (l : Ring). map (new_party config l secrets liars) (range_with_len 0 config.replicas)) keys)
+    (made ∙ ap (λ (l : Ring). map (new_party meaning config l secrets liars) (range_with_len 0 config.replicas)) keys)
     ∙ ap (λ (o : List ℕ). record {
       config = config;
       ring = ring_with config secrets;
       parties =
-          map (new_party config (ring_with config secrets) secrets liars) (range_with_len 0 config.replicas);
+          map (new_party meaning config (ring_with config secrets) secrets liars) (range_with_len 0 config.replicas);
       order = o;
     }) none
 

@@ -1,4 +1,5 @@
 -- A liar's signature changes nothing but which of its leaves are used.
+use Rattle.ledger_model.specs.Meanings.{Meanings}
 use Rattle.std.proofs.Common.{◌≡◌, ℕ, zero, suc, ◌<◌, ◌≤◌, inl, inr, List, [], ◌∷◌, length, map, refl, sym, ap, subst, ◌∙◌, arith}
 use Rattle.std.specs.Prelude.{Option, Some, None, Result, IfSome, IfNone, slice_get, slice_set, slice_index_or, option_and_then}
 use Rattle.std.specs.List.{filter_map}
@@ -35,22 +36,24 @@ is_state None s is = cc
 is_state (Some (party.Correct x)) s is = cc
 is_state (Some (party.Liar keys)) s is = cc
 
-pub signed_cluster : (c : WorldView) (r : ℕ) (old new : SignerView) → IsCluster c → slice_get c.parties r ≡ Some (party.Liar old)
-    → IsCluster (with_keys c r new)
-signed_cluster c r old new cluster at =
+pub signed_cluster : (meaning : Meanings) (c : WorldView) (r : ℕ) (old new : SignerView) → IsCluster meaning c
+    → slice_get c.parties r ≡ Some (party.Liar old)
+    → IsCluster meaning (with_keys c r new)
+signed_cluster meaning c r old new cluster at =
     let d = with_keys c r new in
     let states = states_same c.parties r old new at in
     let correct : correct_of d ≡ correct_of c = ap (map (λ (s : StateView). s.id)) states in
     let world : world_of d ≡ world_of c = ap (λ (l : List StateView). record { histories = map history_in l; order = c.order }) states in
     record {
       size = length-set c.parties r (party.Liar new) ∙ cluster.size;
-      members = λ q s is. member_still c d q s refl refl (cluster.members q s (was_there q s is));
+      members = λ q s is. member_still meaning c d q s refl refl (cluster.members q s (was_there q s is));
       replicas = subst (AreReplicas c.config) (sym correct) cluster.replicas;
       ran = record {
         steps = cluster.ran.steps;
         answers = cluster.ran.answers;
-        runs = subst (λ rs. Runs c.config c.ring (beginning rs) cluster.ran.steps cluster.ran.answers (world_of d)) (sym correct)
-            (subst (Runs c.config c.ring (beginning (correct_of c)) cluster.ran.steps cluster.ran.answers) (sym world) cluster.ran.runs);
+        runs = subst (λ rs. Runs meaning c.config c.ring (beginning rs) cluster.ran.steps cluster.ran.answers (world_of d)) (sym correct)
+            (subst (Runs meaning c.config c.ring (beginning (correct_of c)) cluster.ran.steps cluster.ran.answers)
+            (sym world) cluster.ran.runs);
       };
     }
   where
@@ -108,20 +111,21 @@ signed_as view c i lent p message answer within is signs =
 
 -- ---- whatever is answered, in a cluster `c` that equals `now`
 
-module _ {X : Type 0} (view : X → List ℕ) {c now : WorldView} (is_now : c ≡ now) {i r : ℕ} (place : i ≡ r) (within : i < length c.parties)
+module _ (meaning : Meanings) {X : Type 0} (view : X → List ℕ) {c now : WorldView} (is_now : c ≡ now) {i r : ℕ} (place : i ≡ r)
+    (within : i < length c.parties)
     {lent : Party StateView} (is : lent ≡ slice_index_or c.parties i lent) (p : Party StateView) (message : List ℕ) where
   -- the cluster with the party that was put back
   abbrev after : WorldView
   after = record { config = c.config; ring = c.ring; parties = slice_set c.parties i p; order = c.order }
 
   -- what holds of each cluster still does
-  pub signed_keeps : (result : Option (Result X SignFault)) → IsCluster c
-      → IfSome result (λ answer. LiarSigns view lent message answer p) → IfNone result (p ≡ lent) → IsCluster after
-  signed_keeps None cluster signs same = subst IsCluster (sym (signed_none c i lent p within is same)) cluster
+  pub signed_keeps : (result : Option (Result X SignFault)) → IsCluster meaning c
+      → IfSome result (λ answer. LiarSigns view lent message answer p) → IfNone result (p ≡ lent) → IsCluster meaning after
+  signed_keeps None cluster signs same = subst (IsCluster meaning) (sym (signed_none c i lent p within is same)) cluster
   signed_keeps (Some answer) cluster signs same =
       let at : slice_get c.parties i ≡ Some (party.Liar signs.0) = got c.parties i lent within is ∙ ap Some signs.2.0 in
-      subst (λ q. IsCluster (record { config = c.config; ring = c.ring; parties = slice_set c.parties i q; order = c.order }))
-      (sym signs.2.1) (signed_cluster c i signs.0 signs.1 cluster at)
+      subst (λ q. IsCluster meaning (record { config = c.config; ring = c.ring; parties = slice_set c.parties i q; order = c.order }))
+      (sym signs.2.1) (signed_cluster meaning c i signs.0 signs.1 cluster at)
 
   pub signs_after : (result : Option (Result X SignFault)) → IfSome result (λ answer. LiarSigns view lent message answer p)
       → IfSome result (λ answer. SignsFor view now r message answer after)

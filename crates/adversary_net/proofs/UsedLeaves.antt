@@ -1,4 +1,5 @@
 -- If memory doesn't run out, each leaf that a correct replica uses signs a statement of its own.
+use Rattle.ledger_model.specs.Meanings.{Meanings}
 use Rattle.std.proofs.Common.{◌≡◌, ℕ, zero, suc, inl, inr, Bool, true, false, ◌||◌, ◌+◌, ◌≤◌, cond, List, [], ◌∷◌, ◌++◌, refl, sym, ap}
 use Rattle.std.proofs.Common.{subst, ◌∙◌, arith}
 use Rattle.std.specs.Prelude.{nat_eq, Option, Some, slice_get, slice_set, option_and_then}
@@ -119,29 +120,30 @@ uses_more c d e answers s a first then none r x is =
 
 -- ---- steps that are answered one after the other
 
-pub answered_none : (c : WorldView) → AreAnswered c [] [] c
+pub answered_none : (meaning : Meanings) (c : WorldView) → AreAnswered meaning c [] [] c
 unfolding AreAnswered
-answered_none c = refl
+answered_none meaning c = refl
 
 -- one step more
-pub answered_more : (c d e : WorldView) (steps : List WorldStep) (answers : List WorldReply) (s : WorldStep) (a : WorldReply)
-    → AreAnswered c steps answers d → IsAnswered d s a e → AreAnswered c (steps ++ s ∷ []) (answers ++ a ∷ []) e
+pub answered_more : (meaning : Meanings) (c d e : WorldView) (steps : List WorldStep) (answers : List WorldReply) (s : WorldStep)
+    (a : WorldReply)
+    → AreAnswered meaning c steps answers d → IsAnswered meaning d s a e → AreAnswered meaning c (steps ++ s ∷ []) (answers ++ a ∷ []) e
 unfolding AreAnswered
-answered_more c d e [] [] s a same next = (e, (subst (λ x. IsAnswered x s a e) same next, refl))
-answered_more c d e (t ∷ ts) (b ∷ bs) s a (mid, (one, rest)) next = (mid, (one, answered_more mid d e ts bs s a rest next))
-answered_more c d e [] (b ∷ bs) s a given next = absurd given
-answered_more c d e (t ∷ ts) [] s a given next = absurd given
+answered_more meaning c d e [] [] s a same next = (e, (subst (λ x. IsAnswered meaning x s a e) same next, refl))
+answered_more meaning c d e (t ∷ ts) (b ∷ bs) s a (mid, (one, rest)) next = (mid, (one, answered_more meaning mid d e ts bs s a rest next))
+answered_more meaning c d e [] (b ∷ bs) s a given next = absurd given
+answered_more meaning c d e (t ∷ ts) [] s a given next = absurd given
 
 -- ---- why replicas are mute
 
 -- the history of each member is a replay
-pub replays : (c : WorldView) → IsCluster c → AllReplay c
-replays c cluster r s is = (cluster.members r s is).replay
+pub replays : (meaning : Meanings) (c : WorldView) → IsCluster meaning c → AllReplay meaning c
+replays meaning c cluster r s is = (cluster.members r s is).replay
 
 -- each member accounts for its leaves
-pub accounts : (c : WorldView) → IsCluster c → AllAccountForLeaves c
-accounts c cluster r s is = (cluster.members r s is).account
+pub accounts : (meaning : Meanings) (c : WorldView) → IsCluster meaning c → AllAccountForLeaves c
+accounts meaning c cluster r s is = (cluster.members r s is).account
 
 -- each member signs with each leaf once
-pub once : (c : WorldView) → IsCluster c → EachSignsOnce c
-once c cluster r s is = (cluster.members r s is).once
+pub once : (meaning : Meanings) (c : WorldView) → IsCluster meaning c → EachSignsOnce c
+once meaning c cluster r s is = (cluster.members r s is).once

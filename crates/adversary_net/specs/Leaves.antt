@@ -1,4 +1,5 @@
 -- The leaves that one step of a running cluster costs its correct replicas, and steps that are answered one after the other.
+use Rattle.ledger_model.specs.Meanings.{Meanings}
 use Rattle.std.specs.Prelude.{◌≡◌, ℕ, ◌+◌, ◌==◌, ◌≤◌, List, [], ◌∷◌, Some, if◌then◌else◌}
 use Rattle.ledger_model.specs.declared.event.Event.TheVariants as event
 use Rattle.ledger_model.specs.declared.world.WorldReply.{WorldReply}
@@ -29,14 +30,14 @@ EachUses old s a new = (r : ℕ) (x : StateView) → state_at old r ≡ Some x
     → (y : StateView) × ((state_at new r ≡ Some y) × UsesButFor (lost_at s a r x) x y)
 
 -- the step is answered so
-pub record IsAnswered (c : WorldView) (s : WorldStep) (given : WorldReply) (d : WorldView) : Type 0 where
-  pub steps : StepsBy c.config c.ring (world_of c) (event_of c.config (world_of c) s) given (world_of d)
+pub record IsAnswered (meaning : Meanings) (c : WorldView) (s : WorldStep) (given : WorldReply) (d : WorldView) : Type 0 where
+  pub steps : StepsBy meaning c.config c.ring (world_of c) (event_of c.config (world_of c) s) given (world_of d)
   pub same : IsSameCluster c d
   pub leaves : EachUses c s given d
 
 -- the steps are answered so, one after the other
-unfoldable pub AreAnswered : WorldView → List WorldStep → List WorldReply → WorldView → Type 0
-AreAnswered c [] [] d = d ≡ c
-AreAnswered c (s ∷ ss) (a ∷ answers) d = (mid : WorldView) × (IsAnswered c s a mid × AreAnswered mid ss answers d)
-AreAnswered c [] (a ∷ answers) d = ⊥
-AreAnswered c (s ∷ ss) [] d = ⊥
+unfoldable pub AreAnswered : Meanings → WorldView → List WorldStep → List WorldReply → WorldView → Type 0
+AreAnswered meaning c [] [] d = d ≡ c
+AreAnswered meaning c (s ∷ ss) (a ∷ answers) d = (mid : WorldView) × (IsAnswered meaning c s a mid × AreAnswered meaning mid ss answers d)
+AreAnswered meaning c [] (a ∷ answers) d = ⊥
+AreAnswered meaning c (s ∷ ss) [] d = ⊥

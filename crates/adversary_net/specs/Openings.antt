@@ -1,4 +1,5 @@
 -- A cluster at its start: which replicas lie, their keys, and that nothing has happened.
+use Rattle.ledger_model.specs.Meanings.{Meanings}
 use Rattle.std.specs.Prelude.{◌≡◌, ℕ, ◌+◌, ◌==◌, ◌<◌, ◌≤◌, Bool, not, List, [], ◌∷◌, length, map, filter, All, if◌then◌else◌}
 use Rattle.std.specs.List.{list_any, range_with_len}
 use Rattle.ledger_model.specs.declared.config.Config.{Config}
@@ -34,25 +35,26 @@ pub record MayLie (config : Config) (liars : List ℕ) : Type 0 where
   pub below : All (λ r. r < config.replicas) liars
 
 -- a correct replica to which nothing has happened
-abbrev pub new_replica : Config → Ring → (ℕ → Secret) → ℕ → StateView
-new_replica config ring secrets r = new_state config r ring (unused (secrets r))
+abbrev pub new_replica : Meanings → Config → Ring → (ℕ → Secret) → ℕ → StateView
+new_replica meaning config ring secrets r = new_state meaning config r ring (unused (secrets r))
 
 -- the party with this number at the start
-abbrev pub new_party : Config → Ring → (ℕ → Secret) → List ℕ → ℕ → Party StateView
-new_party config ring secrets liars r =
-    if is_liar liars r then party.Liar (unused (secrets r)) else party.Correct (new_replica config ring secrets r)
+abbrev pub new_party : Meanings → Config → Ring → (ℕ → Secret) → List ℕ → ℕ → Party StateView
+new_party meaning config ring secrets liars r =
+    if is_liar liars r then party.Liar (unused (secrets r)) else party.Correct (new_replica meaning config ring secrets r)
 
 -- the cluster of these secrets at its start, in which these replicas lie
-abbrev pub new_cluster : Config → (ℕ → Secret) → List ℕ → WorldView
-new_cluster config secrets liars = record {
+abbrev pub new_cluster : Meanings → Config → (ℕ → Secret) → List ℕ → WorldView
+new_cluster meaning config secrets liars = record {
   config = config;
   ring = ring_with config secrets;
-  parties = map (new_party config (ring_with config secrets) secrets liars) (range_with_len 0 config.replicas);
+  parties = map (new_party meaning config (ring_with config secrets) secrets liars) (range_with_len 0 config.replicas);
   order = [];
 }
 
 -- an application and random keys for each of n correct replicas, with each application in the opening state of its kind
-pub record IsSupply {A R : Type 0} (machine : A → Machine) (config : Config) (n : ℕ) (apps : List A) (randoms : List R) : Type 0 where
+pub record IsSupply (meaning : Meanings) {A R : Type 0} (machine : A → Machine) (config : Config) (n : ℕ) (apps : List A)
+    (randoms : List R) : Type 0 where
   pub an_app : length apps ≡ n
   pub a_pair : length randoms ≡ n
-  pub opening : All (λ a. machine a ≡ run config.kind []) apps
+  pub opening : All (λ a. machine a ≡ run meaning config.kind []) apps

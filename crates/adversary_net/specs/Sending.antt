@@ -1,4 +1,5 @@
 -- The index of the frames that a history sent.
+use Rattle.ledger_model.specs.Meanings.{Meanings}
 use Rattle.std.specs.Prelude.{◌≡◌, ℕ, ◌+◌, ◌*◌, ◌^◌, ◌==◌, ◌≤◌, List, [], ◌∷◌, length, Option, slice_get, option_and_then, if◌then◌else◌}
 use Rattle.ledger_model.specs.declared.history.Entry.{Entry}
 use Rattle.ledger_model.specs.Worlds.{frames_in, frames_sent}
@@ -19,9 +20,9 @@ pub record IsIndexed (sending : List SendingEntry) (total : ℕ) (entries : List
   pub bound : total ≤ length entries * 2 ^ 64
 
 -- the index is that of the replica's history, and its machine is the application run alone on what it committed
-pub record IsKept (sending : List SendingEntry) (total : ℕ) (s : StateView) : Type 0 where
+pub record IsKept (meaning : Meanings) (sending : List SendingEntry) (total : ℕ) (s : StateView) : Type 0 where
   pub indexed : IsIndexed sending total s.entries
-  pub machine : RunsAlone s
+  pub machine : RunsAlone meaning s
 
 -- the frame with index k among those of entry i
 abbrev pub frame_of : List Entry → ℕ → ℕ → Option (List ℕ)

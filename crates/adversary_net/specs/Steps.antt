@@ -1,4 +1,5 @@
 -- One step of a running cluster: which event it stands for, and what it does to a replica.
+use Rattle.ledger_model.specs.Meanings.{Meanings}
 use Rattle.std.specs.Prelude.{◌≡◌, ℕ, ◌+◌, ◌<◌, ◌≤◌, length, Option, Some, None, Result, Ok, Err}
 use Rattle.ledger_model.specs.Limits.{max_history_len}
 use Rattle.ledger_model.specs.declared.event.Event.{Event}
@@ -27,8 +28,8 @@ answered (Ok (r, i)) = answer.Done r i
 answered (Err f) = answer.Refused f
 
 -- the step, which is this event at this replica, is refused with this cause
-abbrev pub Refused : WorldView → Result (ℕ × Event) WorldRefusal → WorldRefusal → Type 0
-Refused c asked f = StepsBy c.config c.ring (world_of c) asked (answer.Refused f) (world_of c)
+abbrev pub Refused : Meanings → WorldView → Result (ℕ × Event) WorldRefusal → WorldRefusal → Type 0
+Refused meaning c asked f = StepsBy meaning c.config c.ring (world_of c) asked (answer.Refused f) (world_of c)
 
 -- the step is this event at this replica, whose history has room
 pub record IsReady (c : WorldView) (asked : Result (ℕ × Event) WorldRefusal) (r : ℕ) (e : Event) : Type 0 where
@@ -36,19 +37,19 @@ pub record IsReady (c : WorldView) (asked : Result (ℕ × Event) WorldRefusal) 
   pub room : length (entries_in (world_of c) r) < max_history_len
 
 -- the outcome of resolving a step: an event at a replica whose history has room, or a refusal
-abbrev pub ResolvesTo : WorldView → WorldStep → Result (ℕ × Event) WorldRefusal → Type 0
-ResolvesTo c s (Ok p) = IsReady c (event_of c.config (world_of c) s) p.0 p.1
-ResolvesTo c s (Err f) = Refused c (event_of c.config (world_of c) s) f
+abbrev pub ResolvesTo : Meanings → WorldView → WorldStep → Result (ℕ × Event) WorldRefusal → Type 0
+ResolvesTo meaning c s (Ok p) = IsReady c (event_of c.config (world_of c) s) p.0 p.1
+ResolvesTo meaning c s (Err f) = Refused meaning c (event_of c.config (world_of c) s) f
 
 -- the replica applied the event, whose entry has this index
-pub record AppliesAt (old : StateView) (event : Event) (index : ℕ) (new : StateView) : Type 0 where
+pub record AppliesAt (meaning : Meanings) (old : StateView) (event : Event) (index : ℕ) (new : StateView) : Type 0 where
   pub place : index ≡ length old.entries
-  pub applies : AppliesEvent old event new
-  pub sound : IsSound new
+  pub applies : AppliesEvent meaning old event new
+  pub sound : IsSound meaning new
 
 -- the party is the correct replica, with one more lawful entry
-abbrev pub AppliesTo : StateView → Event → ℕ → Party StateView → Type 0
-AppliesTo s event index p = (new : StateView) × ((p ≡ party.Correct new) × AppliesAt s event index new)
+abbrev pub AppliesTo : Meanings → StateView → Event → ℕ → Party StateView → Type 0
+AppliesTo meaning s event index p = (new : StateView) × ((p ≡ party.Correct new) × AppliesAt meaning s event index new)
 
 -- the replica is as it was, except that it may have used leaves, if it was to sign at the event
 pub record Stays (old : StateView) (event : Event) (new : StateView) : Type 0 where
@@ -61,6 +62,6 @@ abbrev pub StaysAs : StateView → Event → Party StateView → Type 0
 StaysAs s event p = (new : StateView) × ((p ≡ party.Correct new) × Stays s event new)
 
 -- the cluster took the step: the reply is right, and the cluster's invariants still hold
-pub record Went (old new : WorldView) (s : WorldStep) (a : WorldReply) : Type 0 where
-  pub cluster : IsCluster new
-  pub answered : IsAnswered old s a new
+pub record Went (meaning : Meanings) (old new : WorldView) (s : WorldStep) (a : WorldReply) : Type 0 where
+  pub cluster : IsCluster meaning new
+  pub answered : IsAnswered meaning old s a new

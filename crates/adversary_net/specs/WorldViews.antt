@@ -1,4 +1,5 @@
 -- A running cluster as contracts see it: its replicas by number, and the order in which entries were added.
+use Rattle.ledger_model.specs.Meanings.{Meanings}
 use Rattle.std.specs.Prelude.{◌≡◌, ℕ, Bool, true, false, List, [], map, take, length, Option, Some, None, Result, slice_get, slice_set}
 use Rattle.std.specs.Prelude.{option_and_then}
 use Rattle.std.specs.List.{list_any, filter_map}
@@ -59,11 +60,11 @@ abbrev pub correct_of : WorldView → List ℕ
 correct_of c = map (λ s. s.id) (states_of c)
 
 -- the machine of a correct replica's application; for other numbers, the opening machine
-abbrev pub machine_in : WorldView → ℕ → Machine
-machine_in c r = machine_if (state_at c r)
+abbrev pub machine_in : Meanings → WorldView → ℕ → Machine
+machine_in meaning c r = machine_if (state_at c r)
   where
     machine_if : Option StateView → Machine
-    machine_if None = run c.config.kind []
+    machine_if None = run meaning c.config.kind []
     machine_if (Some s) = s.machine
 
 -- ---- the world of the definitions
@@ -80,12 +81,12 @@ world_of c = record { histories = map history_in (states_of c); order = c.order 
 
 -- The correct replica with this number belongs to the cluster. Its history is a replay, its machine is the application
 -- run alone on what it committed, it is mute only if too few leaves were left, and no leaf signs two of its statements.
-pub record IsMemberAt (c : WorldView) (r : ℕ) (s : StateView) : Type 0 where
+pub record IsMemberAt (meaning : Meanings) (c : WorldView) (r : ℕ) (s : StateView) : Type 0 where
   pub config : s.config ≡ c.config
   pub ring : s.ring ≡ c.ring
   pub id : s.id ≡ r
-  pub replay : Replay c.config c.ring r s.entries
-  pub machine : s.machine ≡ run c.config.kind (commits_of c.config r s.entries)
+  pub replay : Replay meaning c.config c.ring r s.entries
+  pub machine : s.machine ≡ run meaning c.config.kind (commits_of c.config r s.entries)
   pub account : AccountsForLeaves s
   pub once : SignsEachOnce s
 
@@ -95,17 +96,17 @@ is_out_of_memory (answer.Refused refused.NoMemory) = true
 is_out_of_memory _ = false
 
 -- some steps with some replies lead from the start to this world
-pub record HasRun (c : WorldView) : Type 0 where
+pub record HasRun (meaning : Meanings) (c : WorldView) : Type 0 where
   pub steps : List WorldStep
   pub answers : List WorldReply
-  pub runs : Runs c.config c.ring (beginning (correct_of c)) steps answers (world_of c)
+  pub runs : Runs meaning c.config c.ring (beginning (correct_of c)) steps answers (world_of c)
 
 -- each number below N has its party, at most t of them lie, and what happened is a run
-pub record IsCluster (c : WorldView) : Type 0 where
+pub record IsCluster (meaning : Meanings) (c : WorldView) : Type 0 where
   pub size : length c.parties ≡ c.config.replicas
-  pub members : (r : ℕ) (s : StateView) → state_at c r ≡ Some s → IsMemberAt c r s
+  pub members : (r : ℕ) (s : StateView) → state_at c r ≡ Some s → IsMemberAt meaning c r s
   pub replicas : AreReplicas c.config (correct_of c)
-  pub ran : HasRun c
+  pub ran : HasRun meaning c
 
 -- ---- what every step leaves unchanged
 
@@ -128,8 +129,8 @@ pub record IsSameCluster (old new : WorldView) : Type 0 where
 -- ---- replays
 
 -- the history of each correct replica is a replay: each entry is lawful after those before it, and what it sends is signed
-abbrev pub AllReplay : WorldView → Type 0
-AllReplay c = (r : ℕ) (s : StateView) → state_at c r ≡ Some s → Replay c.config c.ring r s.entries
+abbrev pub AllReplay : Meanings → WorldView → Type 0
+AllReplay meaning c = (r : ℕ) (s : StateView) → state_at c r ≡ Some s → Replay meaning c.config c.ring r s.entries
 
 -- ---- leaves
 
@@ -154,10 +155,10 @@ UsesAsAnswered old answers new = list_any is_out_of_memory answers ≡ false →
 -- ---- replies of the applications
 
 -- each reply of an application is what the application run alone on the blocks committed until then replies
-abbrev pub OwnReplies : Config → List History → Type 0
-OwnReplies config histories =
+abbrev pub OwnReplies : Meanings → Config → List History → Type 0
+OwnReplies meaning config histories =
     (r i : ℕ) (m : History) (e : Entry) → history_of histories r ≡ Some m → slice_get m.entries i ≡ Some e
-    → IsReplyOn config (commits_of config r m.entries) (length (commits_of config r (take i m.entries))) e.event e.reply
+    → IsReplyOn meaning config (commits_of config r m.entries) (length (commits_of config r (take i m.entries))) e.event e.reply
 
 -- ---- what a liar signs
 

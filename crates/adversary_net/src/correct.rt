@@ -30,7 +30,7 @@ impl<A: Application> Model for CorrectReplica<A> {
 
     ghost view = { λ c. c.state };
 
-    ghost invariant = { λ c. IsKept c.sent.sending.items c.sent.total c.state };
+    ghost invariant = { λ c. IsKept A.meaning c.sent.sending.items c.sent.total c.state };
 }
 
 /// The number of frames that an entry sent.
@@ -86,8 +86,8 @@ impl<A: Application> CorrectReplica<A> {
         randoms: [RandomState; 2],
     ) -> Result<Self, AllocError>
         requires member { IsMember config id ring signer.secret }
-        requires opening { A.machine app ≡ run config.kind [] }
-        ensures { IfOk result (λ replica. replica ≡ new_state config id ring signer) }
+        requires opening { A.machine app ≡ run A.meaning config.kind [] }
+        ensures { IfOk result (λ replica. replica ≡ new_state A.meaning config id ring signer) }
     {
         Ok(CorrectReplica {
             state: State::new(alloc, config, id, signer, ring, app, randoms)?,
@@ -125,7 +125,7 @@ impl<A: Application> CorrectReplica<A> {
     /// statement that it was to sign.
     pub(crate) fn apply(&mut self, event: Event) -> Result<usize, AllocError>
         requires room { length self.old.entries < max_history_len }
-        ensures applied { IfOk result (λ index. AppliesAt self.old event index self.new) }
+        ensures applied { IfOk result (λ index. AppliesAt A.meaning self.old event index self.new) }
         ensures err { OnErr result (Stays self.old event self.new) }
     {
         self.sent.reserve()?;

@@ -96,10 +96,19 @@ fn correct_replica<A: Application>(
 ) -> Result<CorrectReplica<A>, AllocError>
     requires member { IsMember config id ring.now signer.secret }
     requires some { 0 < length (into_iter_items supply.old.apps) }
-    requires supply { IsSupply A.machine config (length (into_iter_items supply.old.apps))
+    requires supply { IsSupply A.meaning A.machine config (length (into_iter_items supply.old.apps))
         (into_iter_items supply.old.apps) (into_iter_items supply.old.randoms) }
-    ensures replica { IfOk result (λ replica. replica ≡ record { config = config; id = id; ring = ring.now; secret = signer.secret; used = signer.used; entries = []; machine = run config.kind [] }) }
-    ensures supply_left { IsSupply A.machine config (length (into_iter_items supply.old.apps) - 1)
+    ensures replica { IfOk result (λ replica. replica ≡ record {
+      config = config;
+      id = id;
+      ring = ring.now;
+      secret = signer.secret;
+      used = signer.used;
+      entries = [];
+      machine = run A.meaning
+          config.kind [];
+    }) }
+    ensures supply_left { IsSupply A.meaning A.machine config (length (into_iter_items supply.old.apps) - 1)
         (into_iter_items supply.new.apps) (into_iter_items supply.new.randoms) }
 {
     match (supply.apps.next(), supply.randoms.next()) {
@@ -124,10 +133,10 @@ fn party_of<A: Application>(
     requires signer { signer ≡ unused (secret_of cluster.now id) }
     requires ring { ring.now ≡ ring_of cluster.now }
     requires some { is_liar liars.now id ≡ false → 0 < length (into_iter_items supply.old.apps) }
-    requires supply { IsSupply A.machine cluster.now.config (length (into_iter_items supply.old.apps))
+    requires supply { IsSupply A.meaning A.machine cluster.now.config (length (into_iter_items supply.old.apps))
         (into_iter_items supply.old.apps) (into_iter_items supply.old.randoms) }
-    ensures party { IfOk result (λ party. party ≡ new_party cluster.now.config ring.now (secret_of cluster.now) liars.now id) }
-    ensures supply_left { IsSupply A.machine cluster.now.config
+    ensures party { IfOk result (λ party. party ≡ new_party A.meaning cluster.now.config ring.now (secret_of cluster.now) liars.now id) }
+    ensures supply_left { IsSupply A.meaning A.machine cluster.now.config
         (length (into_iter_items supply.old.apps) - (if is_liar liars.now id then 0 else 1))
         (into_iter_items supply.new.apps) (into_iter_items supply.new.randoms) }
 {
@@ -149,10 +158,10 @@ fn parties_of<A: Application>(
 ) -> Result<Vec<Party<CorrectReplica<A>>>, AllocError>
     requires signers { signers.items ≡ fresh_signers cluster.now }
     requires ring { ring.now ≡ ring_of cluster.now }
-    requires supply { IsSupply A.machine cluster.now.config (length (correct_without cluster.now.config liars.now))
+    requires supply { IsSupply A.meaning A.machine cluster.now.config (length (correct_without cluster.now.config liars.now))
         (into_iter_items supply.apps) (into_iter_items supply.randoms) }
     ensures { IfOk result (λ parties. parties.items
-        ≡ map (new_party cluster.now.config ring.now (secret_of cluster.now) liars.now) (range_with_len 0 cluster.now.config.replicas)) }
+        ≡ map (new_party A.meaning cluster.now.config ring.now (secret_of cluster.now) liars.now) (range_with_len 0 cluster.now.config.replicas)) }
 {
     let mut parties = Vec::with_capacity(alloc, signers.len())?;
     let mut signers = signers.into_iter();
@@ -189,8 +198,8 @@ impl<A: Application> World<A> {
         // There is one application, and one pair of random keys, for each correct replica.
         requires apps { MayLie cluster.now.config liars.now → vec_len apps ≡ length (correct_without cluster.now.config liars.now) }
         requires randoms { MayLie cluster.now.config liars.now → vec_len randoms ≡ length (correct_without cluster.now.config liars.now) }
-        requires opening { All (λ app. A.machine app ≡ run cluster.now.config.kind []) apps.items }
-        ensures new { IfOk result (λ world. world ≡ new_cluster cluster.now.config (secret_of cluster.now) liars.now) }
+        requires opening { All (λ app. A.machine app ≡ run A.meaning cluster.now.config.kind []) apps.items }
+        ensures new { IfOk result (λ world. world ≡ new_cluster A.meaning cluster.now.config (secret_of cluster.now) liars.now) }
         // In terms of the definitions, it is a world in which nothing has happened.
         ensures begins { IfOk result (λ world. world_of world ≡ beginning (correct_without cluster.now.config liars.now)) }
         ensures replicas { OnOk result (AreReplicas cluster.now.config (correct_without cluster.now.config liars.now)) }

@@ -18,7 +18,7 @@ fn apply_to<A: Application>(
     event: Event,
 ) -> Result<usize, AllocError>
     requires room { IsSomeAnd (state_in party.old) (λ s. length s.entries < max_history_len) }
-    ensures applied { IfOk result (λ index. IfSome (state_in party.old) (λ s. AppliesTo s event index party.new)) }
+    ensures applied { IfOk result (λ index. IfSome (state_in party.old) (λ s. AppliesTo A.meaning s event index party.new)) }
     ensures err { OnErr result (IfSome (state_in party.old) (λ s. StaysAs s event party.new)) }
 {
     let Party::Correct(replica) = party else {
@@ -51,7 +51,8 @@ impl<A: Application> World<A> {
     /// Why the replica can't take an event, if it can't: the cluster lacks it, it is a liar, or its history is full.
     fn room(&self, replica: ReplicaId) -> Result<(), WorldRefusal>
         ensures ready { OnOk result ((event : Event) → IsReady self.now (asks self.now.config (world_of self.now) replica event) replica event) }
-        ensures refused { IfErr result (λ fault. (event : Event) → Refused self.now (asks self.now.config (world_of self.now) replica event) fault) }
+        ensures refused { IfErr result (λ fault. (event : Event)
+            → Refused A.meaning self.now (asks self.now.config (world_of self.now) replica event) fault) }
     {
         if self.correct(replica)?.state().len() >= MAX_ENTRIES {
             return Err(WorldRefusal::HistoryFull);
@@ -79,7 +80,8 @@ impl<A: Application> World<A> {
     /// The event that delivers a frame of one correct replica to another.
     fn delivery(&self, from: ReplicaId, index: usize, to: ReplicaId) -> Result<Event, WorldRefusal>
         ensures ready { IfOk result (λ event. IsReady self.now (passes self.now.config (world_of self.now) from index to) to event) }
-        ensures refused { IfErr result (λ fault. Refused self.now (passes self.now.config (world_of self.now) from index to) fault) }
+        ensures refused { IfErr result (λ fault. Refused A.meaning self.now
+            (passes self.now.config (world_of self.now) from index to) fault) }
     {
         let (sender, receiver) = self.pair(from, to)?;
         match sender.frame(index) {
@@ -94,7 +96,7 @@ impl<A: Application> World<A> {
 
     /// The event of a step and the replica that takes it, whose history has room; or why the step is refused.
     fn event_of(&self, step: &WorldStep) -> Result<(ReplicaId, Event), WorldRefusal>
-        ensures { ResolvesTo self.now step.now result }
+        ensures { ResolvesTo A.meaning self.now step.now result }
     {
         match step {
             WorldStep::Submit(replica, bytes) => {
@@ -140,7 +142,7 @@ impl<A: Application> World<A> {
 
     /// Takes one step. Returns the replica, and the index of the entry that was added to its history.
     fn step(&mut self, step: &WorldStep) -> Result<(ReplicaId, usize), WorldRefusal>
-        ensures { Went self.old self.new step.now (answered result) }
+        ensures { Went A.meaning self.old self.new step.now (answered result) }
     {
         let (replica, event) = self.event_of(step)?;
         if self.order.reserve(1).is_err() {
@@ -160,12 +162,12 @@ impl<A: Application> World<A> {
     fn run_each(&mut self, steps: &[WorldStep], answers: &mut Vec<WorldReply>)
         requires room { vec_len answers.old + length steps.now ≤ vec_capacity answers.old }
         requires none { answers.old.items ≡ [] }
-        requires cluster { IsCluster self.old }
-        ensures runs { Runs self.old.config self.old.ring (world_of self.old) steps.now answers.new.items (world_of self.new) }
+        requires cluster { IsCluster A.meaning self.old }
+        ensures runs { Runs A.meaning self.old.config self.old.ring (world_of self.old) steps.now answers.new.items (world_of self.new) }
         ensures same { IsSameCluster self.old self.new }
-        ensures cluster { IsCluster self.new }
+        ensures cluster { IsCluster A.meaning self.new }
         ensures leaves { UsesAsAnswered self.old answers.new.items self.new }
-        ensures each { AreAnswered self.old steps.now answers.new.items self.new }
+        ensures each { AreAnswered A.meaning self.old steps.now answers.new.items self.new }
     {
         for step in steps {
             let outcome = self.step(step);
@@ -186,19 +188,19 @@ impl<A: Application> World<A> {
     pub fn run(&mut self, steps: &[WorldStep]) -> Result<Vec<WorldReply>, AllocError>
         // What happens is a run in the sense of the definitions.
         ensures runs { IfOk result (λ answers.
-            Runs self.old.config self.old.ring (world_of self.old) steps.now answers.items (world_of self.new)) }
+            Runs A.meaning self.old.config self.old.ring (world_of self.old) steps.now answers.items (world_of self.new)) }
         ensures err { OnErr result (self.new ≡ self.old) }
         // So is everything that happened since the world was made.
-        ensures since { HasRun self.new }
+        ensures since { HasRun A.meaning self.new }
         // If nothing that was accepted was forged, all of it is a run of one sequential ledger.
-        ensures one_ledger { IsUnforgedRun self.new → IsOneLedger self.new }
+        ensures one_ledger { IsUnforgedRun self.new → IsOneLedger A.meaning self.new }
         ensures replicas { AreReplicas self.new.config (correct_of self.new) }
         // Each application, and each of its replies, is what it is when it runs alone on its replica's blocks.
-        ensures machines { OwnMachines self.new.config (world_of self.new).histories (machine_in self.new) }
-        ensures replies { OwnReplies self.new.config (world_of self.new).histories }
+        ensures machines { OwnMachines A.meaning self.new.config (world_of self.new).histories (machine_in A.meaning self.new) }
+        ensures replies { OwnReplies A.meaning self.new.config (world_of self.new).histories }
         ensures same { IsSameCluster self.old self.new }
         // Each entry of a correct replica is lawful after those before it, and what it sends is signed.
-        ensures replay { AllReplay self.new }
+        ensures replay { AllReplay A.meaning self.new }
         // A correct replica is mute only if too few leaves were left.
         ensures account { AllAccountForLeaves self.new }
         // In any run, no leaf signs two of the statements that a correct replica sends.
@@ -207,7 +209,7 @@ impl<A: Application> World<A> {
         ensures leaves { IfOk result (λ answers. UsesAsAnswered self.old answers.items self.new) }
         // Step by step: if memory ran out, the replica whose round was to end may have lost as many leaves as it was to sign then,
         // and no other lost one.
-        ensures each { IfOk result (λ answers. AreAnswered self.old steps.now answers.items self.new) }
+        ensures each { IfOk result (λ answers. AreAnswered A.meaning self.old steps.now answers.items self.new) }
     {
         let alloc = *self.order.allocator();
         let mut answers = Vec::with_capacity(alloc, steps.len())?;

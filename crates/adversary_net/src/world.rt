@@ -45,7 +45,7 @@ impl<A: Application> Model for World<A> {
 
     ghost view = { λ w. record { config = w.config; ring = w.ring; parties = w.parties.items; order = w.order.items } };
 
-    ghost invariant = { λ w. IsCluster (record { config = w.config; ring = w.ring; parties = w.parties.items; order = w.order.items }) };
+    ghost invariant = { λ w. IsCluster A.meaning (record { config = w.config; ring = w.ring; parties = w.parties.items; order = w.order.items }) };
 }
 
 /// Appends a copy of the history, if the party is a correct replica.
@@ -86,11 +86,11 @@ impl<A: Application> World<A> {
     pub fn order(&self) -> &[ReplicaId]
         ensures order { result.now ≡ self.now.order }
         // Everything that happened since the world was made is a run in the sense of the definitions.
-        ensures since { HasRun self.now }
+        ensures since { HasRun A.meaning self.now }
         // If nothing that was accepted was forged, it is a run of one sequential ledger.
-        ensures one_ledger { IsUnforgedRun self.now → IsOneLedger self.now }
+        ensures one_ledger { IsUnforgedRun self.now → IsOneLedger A.meaning self.now }
         // Each entry of a correct replica is lawful after those before it, and what it sends is signed.
-        ensures replay { AllReplay self.now }
+        ensures replay { AllReplay A.meaning self.now }
         // A correct replica is mute only if too few leaves were left.
         ensures account { AllAccountForLeaves self.now }
         // No leaf signed two of the statements that a correct replica sent.
@@ -115,7 +115,7 @@ impl<A: Application> World<A> {
     /// The replica with this number, if the cluster has one.
     fn party(&self, replica: ReplicaId) -> Option<&Party<CorrectReplica<A>>>
         ensures party { option_copied result ≡ slice_get self.now.parties replica }
-        ensures cluster { IsCluster self.now }
+        ensures cluster { IsCluster A.meaning self.now }
     {
         self.parties.get(usize::from(replica.number()))
     }
@@ -124,7 +124,7 @@ impl<A: Application> World<A> {
     pub fn state(&self, replica: ReplicaId) -> Option<&State<A>>
         ensures state { option_copied result ≡ state_at self.now replica }
         ensures entries { IfSome result (λ s. entries_in (world_of self.now) replica ≡ s.now.entries) }
-        ensures member { IfSome result (λ s. IsMemberAt self.now replica s.now) }
+        ensures member { IfSome result (λ s. IsMemberAt A.meaning self.now replica s.now) }
         ensures correct { is_some result ≡ is_correct (world_of self.now).histories replica }
     {
         match self.party(replica) {
@@ -137,7 +137,7 @@ impl<A: Application> World<A> {
     /// The correct replica with this number, or why a step may not name it.
     pub(crate) fn correct(&self, replica: ReplicaId) -> Result<&CorrectReplica<A>, WorldRefusal>
         ensures correct { IfOk result (λ s. state_at self.now replica ≡ Some s.now) }
-        ensures member { IfOk result (λ s. IsMemberAt self.now replica s.now) }
+        ensures member { IfOk result (λ s. IsMemberAt A.meaning self.now replica s.now) }
         ensures entries { IfOk result (λ s. entries_in (world_of self.now) replica ≡ s.now.entries) }
         ensures no_fault { OnOk result (fault_at self.now.config (world_of self.now) replica ≡ None) }
         ensures fault { IfErr result (λ fault. fault_at self.now.config (world_of self.now) replica ≡ Some fault) }
@@ -168,7 +168,7 @@ impl<A: Application> World<A> {
     pub fn info(&self, replica: ReplicaId) -> Result<Info, WorldRefusal>
         // It is the answer of the application run alone on what the replica committed.
         ensures info { IfOk result (λ info. info
-            ≡ info_reply self.now.config.kind (commits_of self.now.config replica (entries_in (world_of self.now) replica))) }
+            ≡ info_reply A.meaning self.now.config.kind (commits_of self.now.config replica (entries_in (world_of self.now) replica))) }
         ensures no_fault { OnOk result (fault_at self.now.config (world_of self.now) replica ≡ None) }
         ensures fault { IfErr result (λ fault. fault_at self.now.config (world_of self.now) replica ≡ Some fault) }
     {

@@ -15,8 +15,8 @@ use Rattle.std.specs.BTreeMap.{insert_entry}
 use Rattle.std.specs.Vec.{vec_len}
 use Rattle.sha2.specs.Hashers.{Holds256}
 use Rattle.sha2.specs.declared.Sha256.{Sha256}
-use Rattle.ledger_model.specs.Applications.{same_bytes, state_bytes}
-use Rattle.ledger_model.specs.Applications.AppState.{Pairs}
+use Rattle.ledger_model.specs.Values.{same_bytes}
+use Rattle.ledger_model.specs.Kinds.{store_bytes}
 use Rattle.ledger_model.specs.Limits.{max_tx_len}
 use Rattle.app_kinds.specs.Sorted.{Pair, pair_bytes, FitTransactions}
 
@@ -110,11 +110,11 @@ pairs_bytes ps = flat_map (λ p. (length p.0 ∷ p.0) ++ (length p.1 ∷ p.1)) p
 pub record Feeds (hasher : Sha256) (left all : List Pair) : Type 0 where
   pub so_far : List ℕ
   pub holds : Holds256 hasher so_far
-  pub ends : so_far ++ pairs_bytes left ≡ state_bytes (Pairs all)
+  pub ends : so_far ++ pairs_bytes left ≡ store_bytes all
 
 pub feeds-begin : (h : Sha256) (all : List Pair) (count : List ℕ) → Holds256 h (1 ∷ count) → count ≡ to_be_bytes w64 (length all)
     → Feeds h all all
-unfolding state_bytes
+unfolding store_bytes
 feeds-begin h all count holds e = record {
   so_far = 1 ∷ count;
   holds = holds;
@@ -130,9 +130,9 @@ feeds-more old mid new k v rest all before key value = record {
   ends = simp append_assoc (simp append_assoc at before.ends);
 }
 
-pub feeds-end : (h : Sha256) (all : List Pair) → Feeds h [] all → Holds256 h (state_bytes (Pairs all))
+pub feeds-end : (h : Sha256) (all : List Pair) → Feeds h [] all → Holds256 h (store_bytes all)
 feeds-end h all fed =
-    let e : fed.so_far ≡ state_bytes (Pairs all) = sym (append-nil fed.so_far) ∙ fed.ends in
+    let e : fed.so_far ≡ store_bytes all = sym (append-nil fed.so_far) ∙ fed.ends in
     rw (← e) fed.holds
 
 pub short-next : (left : List Entry) (e : Entry) (rest : List Entry) → left ≡ e ∷ rest → FitTransactions (pair_bytes left)

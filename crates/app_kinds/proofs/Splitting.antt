@@ -3,7 +3,7 @@ use Rattle.std.proofs.Common.{◌≡◌, ℕ, suc, ◌+◌, ◌<◌, Bool, true,
 use Rattle.std.proofs.Common.{◌∙◌, arith, ltb-true, ltb-false, take_all}
 use Rattle.std.specs.Prelude.{position, nat_lt, ◌||◌, not}
 use Rattle.std.specs.List.{position_or_len, list_any}
-use Rattle.ledger_model.specs.Applications.{is_equals_sign, key_of, value_in}
+use Rattle.ledger_model.specs.Kinds.{is_equals_sign, key_of, value_in}
 
 -- where the first equals sign is, or the length
 abbrev sign_at : List ℕ → ℕ

@@ -11,7 +11,8 @@ use Rattle.std.specs.List.Sorted.{IsStrictlySortedBy}
 use Rattle.std.specs.Map.{keys_of as entry_keys, lookup}
 use Rattle.std.specs.BTreeMap.{insert_entry}
 use Rattle.std.proofs.lemmas.Map.Lookups.{exact_bytes}
-use Rattle.ledger_model.specs.Applications.{same_bytes, key_of, value_in, value_at, with_key, keys_of}
+use Rattle.ledger_model.specs.Values.{same_bytes}
+use Rattle.ledger_model.specs.Kinds.{key_of, value_in, value_at, with_key, keys_of, pairs_of}
 use Rattle.app_kinds.specs.Sorted.{Pair}
 use Rattle.app_kinds.proofs.Entries.{byte_cmp}
 
@@ -152,9 +153,6 @@ same_itself k = nat_list_eq_equiv.refl k
 abbrev pub paired : (List ℕ → List ℕ) → List (List ℕ) → List Pair
 paired g ks = map {B = Pair} (λ q. (q, g q)) ks
 
-abbrev pub stored : List (List ℕ) → List Pair
-stored done = paired (λ k. unwrap_or (value_at done k) []) (keys_of done)
-
 apart_from_less : (k q : List ℕ) → byte_cmp k q ≡ Less → same_bytes k q ≡ false
 apart_from_less k q e = texts_ties k q ∙ ap is_eq e
 
@@ -202,8 +200,8 @@ keys-stored g [] = refl
 keys-stored g (k ∷ ks) = ap (λ r. k ∷ r) (keys-stored g ks)
 
 -- one transaction more sets its key's value
-pub stored-push : (done : List (List ℕ)) (tx : List ℕ) → IsStrictlySortedBy byte_cmp (entry_keys (stored done))
-    → stored (done ++ tx ∷ []) ≡ insert_entry byte_cmp (stored done) (key_of tx) (value_in tx)
+pub stored-push : (done : List (List ℕ)) (tx : List ℕ) → IsStrictlySortedBy byte_cmp (entry_keys (pairs_of done))
+    → pairs_of (done ++ tx ∷ []) ≡ insert_entry byte_cmp (pairs_of done) (key_of tx) (value_in tx)
 stored-push done tx sorted =
     let g : List ℕ → List ℕ = λ k. unwrap_or (value_at done k) [] in
     let g' : List ℕ → List ℕ = λ k. unwrap_or (value_at (done ++ tx ∷ []) k) [] in
@@ -276,8 +274,25 @@ whole : (o : Option (List ℕ)) → cond (is_some o) (Some (unwrap_or o [])) Non
 whole (Some v) = refl
 whole None = refl
 
-pub lookup-stored : (done : List (List ℕ)) (q : List ℕ) → lookup (same_bytes q) (stored done) ≡ value_at done q
+pub lookup-stored : (done : List (List ℕ)) (q : List ℕ) → lookup (same_bytes q) (pairs_of done) ≡ value_at done q
 lookup-stored done q =
     lookup-map (λ k. unwrap_or (value_at done k) []) q (keys_of done)
     ∙ ap (λ b. cond b (Some (unwrap_or (value_at done q) [])) None) (in-keys_of done q)
     ∙ whole (value_at done q)
+
+-- after the same pairs, one more transaction leads to the same pairs
+pub pairs-next : (done others : List (List ℕ)) (tx : List ℕ) → pairs_of done ≡ pairs_of others
+    → pairs_of (done ++ tx ∷ []) ≡ pairs_of (others ++ tx ∷ [])
+pairs-next done others tx same =
+    let g : List ℕ → List ℕ = λ k. unwrap_or (value_at done k) [] in
+    let h : List ℕ → List ℕ = λ k. unwrap_or (value_at others k) [] in
+    let keys : keys_of done ≡ keys_of others =
+    sym (keys-stored g (keys_of done)) ∙ ap (λ (ps : List Pair). entry_keys ps) same ∙ keys-stored h (keys_of others) in
+    let held : (q : List ℕ) → value_at done q ≡ value_at others q =
+    λ q. sym (lookup-stored done q) ∙ ap (λ (ps : List Pair). lookup (same_bytes q) ps) same ∙ lookup-stored others q in
+    let keys' : keys_of (done ++ tx ∷ []) ≡ keys_of (others ++ tx ∷ []) =
+    keys_of-push done tx ∙ ap (key_among (key_of tx)) keys ∙ sym (keys_of-push others tx) in
+    let held' : (q : List ℕ) → value_at (done ++ tx ∷ []) q ≡ value_at (others ++ tx ∷ []) q =
+    λ q. value_at-push done tx q ∙ ap (λ o. cond (same_bytes (key_of tx) q) (Some (value_in tx)) o) (held q)
+    ∙ sym (value_at-push others tx q) in
+    λ i. paired (λ k. unwrap_or (held' k i) []) (keys' i)

@@ -1,5 +1,5 @@
 -- A transfer between two accounts of a list.
-use Rattle.std.proofs.Common.{◌≡◌, ◌≢◌, ℕ, ◌+◌, ◌-◌, ◌<◌, ◌≤◌, List, [], ◌∷◌, ◌++◌, length, take, get_or, set, sym, ap, ◌∙◌, arith}
+use Rattle.std.proofs.Common.{◌≡◌, ◌≢◌, ℕ, zero, suc, ◌+◌, ◌-◌, ◌^◌, ◌<◌, ◌≤◌, List, [], ◌∷◌, ◌++◌, length, take, get_or, set, sym, ap, ◌∙◌, arith}
 use Rattle.std.proofs.Common.{append_assoc}
 use Rattle.std.specs.List.{flat_map}
 use Rattle.std.proofs.lemmas.List.Sums.{sum_by-set, get_or-le-sum_by}
@@ -7,7 +7,7 @@ use Rattle.std.proofs.lemmas.List.{map-set, length-set, length-map, get_or-set_o
 use Rattle.std.proofs.Math.ListN.{get_or-map}
 use Rattle.std.specs.Int.{w32, to_be_bytes}
 use Rattle.app_kinds.specs.declared.account.Account.{Account}
-use Rattle.app_kinds.specs.Purses.{shown, balance_at, nonce_at, total_of}
+use Rattle.app_kinds.specs.Purses.{shown, balance_at, nonce_at, total_of, FitFourBytes}
 
 abbrev pub Balance : Type 0
 Balance = ℕ × ℕ
@@ -65,6 +65,33 @@ two-le-total ps s r hs hr apart =
     let most : balance_at qs r ≤ total_of qs = get_or-le-sum_by (λ (a : Balance). a.0) qs r (0, 0) long in
     let same : balance_at qs r ≡ balance_at ps r = ap (λ (h : Balance). h.0) (get_or-set_other ps s r (0, 0) (0, 0) (λ e. apart (sym e))) in
     omega arith
+
+-- ---- four bytes hold each number
+
+-- what one account shows
+fit-at : (ps : List Balance) (i : ℕ) → FitFourBytes ps → (balance_at ps i < 2 ^ 32) × (nonce_at ps i < 2 ^ 32)
+fit-at [] i fit = (omega arith, omega arith)
+fit-at (p ∷ ps) zero fit = fit.0
+fit-at (p ∷ ps) (suc i) fit = fit-at ps i fit.1
+
+fit-set : (ps : List Balance) (i : ℕ) (a : Balance) → FitFourBytes ps → a.0 < 2 ^ 32 → a.1 < 2 ^ 32 → FitFourBytes (set ps i a)
+fit-set [] i a fit balance nonce = tt
+fit-set (p ∷ ps) zero a fit balance nonce = ((balance, nonce), fit.1)
+fit-set (p ∷ ps) (suc i) a fit balance nonce = (fit.0, fit-set ps i a fit.1 balance nonce)
+
+less-below : (b x : ℕ) → b < 2 ^ 32 → b - x < 2 ^ 32
+less-below b x below = omega arith
+
+more-below : (b r x total : ℕ) → x ≤ b → b + r ≤ total → total ≡ 256000 → r + x < 2 ^ 32
+more-below b r x total covered most is = omega arith
+
+-- and after a transfer
+pub fit-moved : (ps : List Balance) (s r x : ℕ) → FitFourBytes ps → total_of ps ≡ 256000 → s < length ps → r < length ps → s ≢ r
+    → x ≤ balance_at ps s → nonce_at ps s + 1 < 2 ^ 32 → FitFourBytes (moved ps s r x)
+fit-moved ps s r x fit total hs hr apart covered counted =
+    fit-set (set ps s (balance_at ps s - x, nonce_at ps s + 1)) r (balance_at ps r + x, nonce_at ps r)
+    (fit-set ps s (balance_at ps s - x, nonce_at ps s + 1) fit (less-below _ x (fit-at ps s fit).0) counted)
+    (more-below _ _ x _ covered (two-le-total ps s r hs hr apart) total) (fit-at ps r fit).1
 
 pub length-shown : (accounts : List Account) → length (shown accounts) ≡ length accounts
 length-shown accounts = length-map accounts (λ (x : Account). let h : Balance = (x.balance, x.nonce) in h)

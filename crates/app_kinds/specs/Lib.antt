@@ -5,3 +5,4 @@ pub mod Sorted
 pub mod Purses
 pub mod Balances
 pub mod Chosen
+pub mod Determined

@@ -1,9 +1,9 @@
 -- The accounts of a purse as contracts see them: the balance and the nonce of each.
 use Rattle.std.specs.Prelude.{◌≡◌, ◌≢◌, ℕ, ◌+◌, ◌^◌, ◌<◌, ◌≤◌, List, length, map, slice_index_or}
-use Rattle.std.specs.List.{sum_by}
+use Rattle.std.specs.List.{sum_by, AllByRecursion}
 use Rattle.app_kinds.specs.declared.account.Account.{Account}
 use Rattle.app_kinds.specs.declared.transfer.Transfer.{Transfer}
-use Rattle.ledger_model.specs.Applications.{sender, receiver, amount, nonce_in}
+use Rattle.ledger_model.specs.Kinds.{sender, receiver, amount, nonce_in}
 
 -- the balance and the nonce of each account
 abbrev pub shown : List Account → List (ℕ × ℕ)
@@ -20,6 +20,10 @@ nonce_at accounts i = (slice_index_or accounts i (0, 0)).1
 -- the sum of all balances
 abbrev pub total_of : List (ℕ × ℕ) → ℕ
 total_of accounts = sum_by (λ a. a.0) accounts
+
+-- the balance and the nonce of each account fit four bytes
+abbrev pub FitFourBytes : List (ℕ × ℕ) → Type 0
+FitFourBytes accounts = AllByRecursion (λ a. (a.0 < 2 ^ 32) × (a.1 < 2 ^ 32)) accounts
 
 -- the transfer is the one that the ten bytes encode
 pub record IsTransferOf (bytes : List ℕ) (transfer : Transfer) : Type 0 where

@@ -1,9 +1,10 @@
 //! The state of a purse: its accounts.
-ghost use Rattle.std.specs.Prelude.{◌≡◌, ℕ, List, length, IfOk, IfErr};
+ghost use Rattle.std.specs.Prelude.{◌≡◌, ℕ, List, [], length, IfOk, IfErr};
 ghost use Rattle.sha2.specs.Sha256.{sha256};
 ghost use Rattle.ledger_model.specs.declared.config.AppKind.TheVariants as kind;
-ghost use Rattle.ledger_model.specs.Applications.{state_of, code_after, state_bytes};
-ghost use Rattle.ledger_model.specs.Applications.AppState.{Accounts as AccountState};
+ghost use Rattle.ledger_model.specs.Applications.{accepted, code_after};
+ghost use Rattle.ledger_model.specs.Kinds.{meaning_of, purse_bytes};
+ghost use Rattle.abci.specs.Meaning.{state_after};
 ghost use Rattle.app_kinds.specs.Codes.{code_of};
 ghost use Rattle.app_kinds.specs.Purses.{shown, IsTransferOf, CanMove};
 
@@ -32,24 +33,25 @@ pub struct Accounts {
 
 impl Model for Accounts {
     ghost use Rattle.std.specs.Prelude.{◌≡◌, ℕ, List, length};
-    ghost use Rattle.app_kinds.specs.Purses.{shown, total_of};
+    ghost use Rattle.app_kinds.specs.Purses.{shown, total_of, FitFourBytes};
 
     ghost Value = { List (ℕ × ℕ) };
 
     ghost view = { λ a. shown a.accounts };
 
-    ghost invariant = { λ a. (length a.accounts ≡ 256) × (total_of (shown a.accounts) ≡ 256000) };
+    ghost invariant = { λ a. (length a.accounts ≡ 256) × (total_of (shown a.accounts) ≡ 256000) × FitFourBytes (shown a.accounts) };
 }
 
 impl Accounts {
     ghost use Rattle.std.specs.Prelude.{◌≢◌, ◌+◌, ◌-◌, ◌<◌, ◌≤◌, ◌^◌, slice_set};
-    ghost use Rattle.app_kinds.specs.Purses.{balance_at, nonce_at};
+    ghost use Rattle.app_kinds.specs.Purses.{balance_at, nonce_at, FitFourBytes};
 
     /// The account with this number.
     pub fn account(&self, number: u8) -> Account
         ensures balance { result.balance ≡ balance_at self.now number }
         ensures nonce { result.nonce ≡ nonce_at self.now number }
         ensures count { length self.now ≡ 256 }
+        ensures fit { FitFourBytes self.now }
     {
         self.accounts[usize::from(number)]
     }
@@ -59,9 +61,10 @@ impl Accounts {
         requires apart { from ≢ to }
         requires covered { amount ≤ balance_at self.old from }
         requires counted { nonce_at self.old from + 1 < 2 ^ 32 }
-        ensures { self.new ≡ slice_set
+        ensures moved { self.new ≡ slice_set
             (slice_set self.old from (balance_at self.old from - amount, nonce_at self.old from + 1))
             to (balance_at self.old to + amount, nonce_at self.old to) }
+        ensures fit { FitFourBytes self.old }
     {
         let (from, to) = (usize::from(from), usize::from(to));
         let (sender, receiver) = (self.accounts[from], self.accounts[to]);
@@ -78,11 +81,13 @@ impl Accounts {
 
 impl KindState for Accounts {
     ghost use Rattle.ledger_model.specs.declared.config.AppKind.TheVariants as kind;
-    ghost use Rattle.ledger_model.specs.Applications.AppState.{Accounts as AccountState};
+    ghost use Rattle.ledger_model.specs.Kinds.{meaning_of, purse_bytes};
+
+    ghost meaning = { meaning_of };
 
     ghost of_kind = { kind.Purse };
 
-    ghost state = { AccountState };
+    ghost state = { purse_bytes };
 
     /// Each account holds 1000.
     fn opening(_alloc: Global) -> Self {
@@ -145,10 +150,10 @@ impl KindState for Accounts {
 fn test_delivery(accounts: &Accounts, tx: &[u8]) -> Result<Transfer, Refusal>
     ensures transfer { IfOk result (λ transfer. IsTransferOf tx.now transfer) }
     ensures possible { IfOk result (λ transfer. CanMove accounts.now transfer) }
-    ensures passes { IfOk result (λ transfer. (done : List (List ℕ)) → AccountState accounts.now ≡ state_of kind.Purse done
-        → code_after kind.Purse done tx.now ≡ 0) }
-    ensures refused { IfErr result (λ refusal. (done : List (List ℕ)) → AccountState accounts.now ≡ state_of kind.Purse done
-        → code_after kind.Purse done tx.now ≡ code_of refusal) }
+    ensures passes { IfOk result (λ transfer. (txs : List (List ℕ)) → purse_bytes accounts.now ≡ state_after meaning_of kind.Purse txs
+        → code_after meaning_of kind.Purse (accepted meaning_of kind.Purse [] txs) tx.now ≡ 0) }
+    ensures refused { IfErr result (λ refusal. (txs : List (List ℕ)) → purse_bytes accounts.now ≡ state_after meaning_of kind.Purse txs
+        → code_after meaning_of kind.Purse (accepted meaning_of kind.Purse [] txs) tx.now ≡ code_of refusal) }
 {
     let Some(transfer) = Transfer::read(tx) else {
         return Err(Refusal::Misspelled);
@@ -168,7 +173,7 @@ fn test_delivery(accounts: &Accounts, tx: &[u8]) -> Result<Transfer, Refusal>
 
 /// The SHA-256 of the encoding of these accounts.
 fn hash_of(accounts: &[Account]) -> [u8; 32]
-    ensures { result ≡ sha256 (state_bytes (AccountState (shown accounts.now))) }
+    ensures { result ≡ sha256 (purse_bytes (shown accounts.now)) }
 {
     let mut hasher = Sha256::new();
     hasher.update([PURSE]);

@@ -18,11 +18,12 @@ pub enum AnyKind {
 impl AnyKind {
     ghost use Rattle.std.specs.Prelude.{◌≡◌, []};
     ghost use Rattle.ledger_model.specs.Applications.{run};
+    ghost use Rattle.ledger_model.specs.Kinds.{meaning_of};
     ghost use Rattle.app_kinds.specs.Chosen.{machine_of};
 
     /// The application of this kind before the first block.
     pub fn new(alloc: Global, kind: AppKind) -> Self
-        ensures new { machine_of result ≡ run kind [] }
+        ensures new { machine_of result ≡ run meaning_of kind [] }
         // It is an application that an executor can start with.
         ensures kind { (machine_of result).kind ≡ kind }
     {
@@ -35,7 +36,10 @@ impl AnyKind {
 }
 
 impl Application for AnyKind {
+    ghost use Rattle.ledger_model.specs.Kinds.{meaning_of};
     ghost use Rattle.app_kinds.specs.Chosen.{machine_of};
+
+    ghost meaning = { meaning_of };
 
     ghost machine = { machine_of };
 

@@ -1,6 +1,6 @@
 //! The key and the value that a transaction of a store sets.
 ghost use Rattle.std.specs.Prelude.{◌≡◌, ◌≤◌, length, position};
-ghost use Rattle.ledger_model.specs.Applications.{is_equals_sign, key_of, value_in};
+ghost use Rattle.ledger_model.specs.Kinds.{is_equals_sign, key_of, value_in};
 
 /// The key and the value of a transaction.
 pub fn key_and_value(tx: &[u8]) -> (&[u8], &[u8])

@@ -1,7 +1,7 @@
 //! The state of a counter: the number of accepted transactions.
 ghost use Rattle.std.specs.Prelude.{◌≡◌, ◌+◌, ◌^◌, ◌<◌, ◌≤◌, ℕ, List, length, OnOk, IfErr};
-ghost use Rattle.ledger_model.specs.Applications.{number_in, code_after, state_bytes};
-ghost use Rattle.ledger_model.specs.Applications.AppState.{Count as CountState};
+ghost use Rattle.ledger_model.specs.Applications.{code_after};
+ghost use Rattle.ledger_model.specs.Kinds.{meaning_of, number_in};
 ghost use Rattle.ledger_model.specs.declared.config.AppKind.TheVariants as kind;
 ghost use Rattle.app_kinds.specs.Codes.{code_of};
 ghost use Rattle.sha2.specs.Sha256.{sha256};
@@ -25,11 +25,13 @@ pub struct Count {
 
 impl KindState for Count {
     ghost use Rattle.ledger_model.specs.declared.config.AppKind.TheVariants as kind;
-    ghost use Rattle.ledger_model.specs.Applications.AppState.{Count as CountState};
+    ghost use Rattle.ledger_model.specs.Kinds.{meaning_of, counter_bytes};
+
+    ghost meaning = { meaning_of };
 
     ghost of_kind = { kind.Counter };
 
-    ghost state = { λ c. CountState c.accepted };
+    ghost state = { λ c. counter_bytes c.accepted };
 
     fn opening(_alloc: Global) -> Self {
         Count { accepted: 0 }
@@ -80,13 +82,13 @@ impl KindState for Count {
 }
 
 /// Whether a transaction is accepted after `count` others.
-#[tactic(auto, unfolding(ledger_model::specs::Applications::code_after))]
+#[tactic(auto, unfolding(ledger_model::specs::Kinds::counter))]
 fn test_delivery(count: u64, tx: &[u8]) -> Result<(), Refusal>
     ensures room { OnOk result (count + 1 < 2 ^ 64) }
     ensures passes { OnOk result ((done : List (List ℕ)) → length done ≡ count
-        → code_after kind.Counter done tx.now ≡ 0) }
+        → code_after meaning_of kind.Counter done tx.now ≡ 0) }
     ensures refused { IfErr result (λ refusal. (done : List (List ℕ)) → length done ≡ count
-        → code_after kind.Counter done tx.now ≡ code_of refusal) }
+        → code_after meaning_of kind.Counter done tx.now ≡ code_of refusal) }
 {
     if tx.len() > NUMBER_LEN {
         return Err(Refusal::Misspelled);

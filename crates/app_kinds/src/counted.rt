@@ -42,6 +42,8 @@ impl<X: Application> Application for Counted<X> {
     ghost use Rattle.std.specs.Prelude.{◌≡◌, ◌+◌, ◌-◌, ◌^◌, min, IsSome, IfOk, OnOk, OnErr};
     ghost use Rattle.abci.specs.Meaning.{StartsBlock, KeepsCommitted, DeliversTo, CommitsTo, LosesWork};
 
+    ghost meaning = { X.meaning };
+
     ghost machine = { λ c. X.machine c.app };
 
     fn info(&self) -> Info {
@@ -74,7 +76,7 @@ impl<X: Application> Application for Counted<X> {
         requires { IsSome (X.machine self.old.app).working }
         ensures count { self.new.delivered ≡ min (self.old.delivered + 1) (2 ^ 64 - 1) }
         ensures goes_on { OnOk result (KeepsCommitted (X.machine self.old.app) (X.machine self.new.app)) }
-        ensures ok { IfOk result (λ code. DeliversTo (X.machine self.old.app) tx.now code (X.machine self.new.app)) }
+        ensures ok { IfOk result (λ code. DeliversTo X.meaning (X.machine self.old.app) tx.now code (X.machine self.new.app)) }
         ensures err { OnErr result (LosesWork (X.machine self.old.app) (X.machine self.new.app)) }
     {
         self.delivered = self.delivered.saturating_add(1);

@@ -14,7 +14,7 @@ pub trait Opening: Application {
 
     /// The application before the first block, of a cluster of this kind.
     fn opening(alloc: Global, kind: AppKind) -> Self
-        ensures { Self.machine result ≡ run kind [] };
+        ensures { Self.machine result ≡ run Self.meaning kind [] };
 }
 
 impl Opening for AnyKind {
@@ -30,7 +30,7 @@ pub fn new_apps<A: Opening>(
     count: usize,
 ) -> Result<Vec<A>, AllocError>
     ensures count { IfOk result (λ apps. vec_len apps ≡ count) }
-    ensures opening { IfOk result (λ apps. All (λ app. A.machine app ≡ run kind []) apps.items) }
+    ensures opening { IfOk result (λ apps. All (λ app. A.machine app ≡ run A.meaning kind []) apps.items) }
 {
     let mut apps = Vec::with_capacity(alloc, count)?;
     for _ in 0..count {

@@ -2,9 +2,8 @@
 ghost use Rattle.std.specs.Prelude.{◌≡◌, ◌+◌, ◌≤◌, ℕ, List, [], ◌∷◌, ◌++◌, length};
 ghost use Rattle.sha2.specs.Hashers.{Holds256};
 ghost use Rattle.sha2.specs.Sha256.{sha256};
-ghost use Rattle.ledger_model.specs.Applications.{state_bytes};
+ghost use Rattle.ledger_model.specs.Kinds.{store_bytes};
 ghost use Rattle.ledger_model.specs.Limits.{max_tx_len};
-ghost use Rattle.ledger_model.specs.Applications.AppState.{Pairs as PairState};
 ghost use Rattle.app_kinds.specs.Sorted.{pair_bytes, FitTransactions};
 
 use crate::assignment::key_and_value;
@@ -41,7 +40,7 @@ impl Pairs {
     ghost use Rattle.std.specs.List.Sorted.{IsStrictlySortedBy};
     ghost use Rattle.std.specs.Map.{keys_of, lookup};
     ghost use Rattle.std.specs.BTreeMap.{insert_entry};
-    ghost use Rattle.ledger_model.specs.Applications.{same_bytes};
+    ghost use Rattle.ledger_model.specs.Values.{same_bytes};
 
     /// Sets the value of a key. After allocation failure the pairs are unchanged.
     pub fn set(&mut self, alloc: Global, key: &[u8], value: &[u8]) -> Result<(), AllocError>
@@ -67,11 +66,13 @@ impl Pairs {
 
 impl KindState for Pairs {
     ghost use Rattle.ledger_model.specs.declared.config.AppKind.TheVariants as kind;
-    ghost use Rattle.ledger_model.specs.Applications.AppState.{Pairs as PairState};
+    ghost use Rattle.ledger_model.specs.Kinds.{meaning_of, store_bytes};
+
+    ghost meaning = { meaning_of };
 
     ghost of_kind = { kind.KvStore };
 
-    ghost state = { PairState };
+    ghost state = { store_bytes };
 
     /// No pairs.
     fn opening(alloc: Global) -> Self {
@@ -94,7 +95,7 @@ impl KindState for Pairs {
     }
 
     /// No store refuses a transaction.
-    #[tactic(auto, unfolding(ledger_model::specs::Applications::check_after))]
+    #[tactic(auto, unfolding(ledger_model::specs::Kinds::store))]
     fn check(&self, _tx: &[u8]) -> u32 {
         0
     }
@@ -115,7 +116,7 @@ impl KindState for Pairs {
 /// The SHA-256 of the encoding of these pairs.
 fn hash_of(values: &BTreeMap<Vec<u8>, Vec<u8>>) -> [u8; 32]
     requires { FitTransactions (pair_bytes values.now.entries) }
-    ensures { result ≡ sha256 (state_bytes (PairState (pair_bytes values.now.entries))) }
+    ensures { result ≡ sha256 (store_bytes (pair_bytes values.now.entries)) }
 {
     let mut hasher = Sha256::new();
     hasher.update([PAIRS]);

@@ -36,6 +36,8 @@ impl<X: Application> Application for Refusing<X> {
     ghost use Rattle.std.specs.Prelude.{◌≡◌, ◌+◌, ◌-◌, IsSome, IsErr, IfOk, OnOk, OnErr};
     ghost use Rattle.abci.specs.Meaning.{StartsBlock, KeepsCommitted, DeliversTo, CommitsTo, LosesWork};
 
+    ghost meaning = { X.meaning };
+
     ghost machine = { λ r. X.machine r.app };
 
     fn info(&self) -> Info {
@@ -67,7 +69,7 @@ impl<X: Application> Application for Refusing<X> {
     fn deliver_tx(&mut self, tx: &Tx) -> Result<u32, AllocError>
         requires { IsSome (X.machine self.old.app).working }
         ensures goes_on { OnOk result (KeepsCommitted (X.machine self.old.app) (X.machine self.new.app)) }
-        ensures ok { IfOk result (λ code. DeliversTo (X.machine self.old.app) tx.now code (X.machine self.new.app)) }
+        ensures ok { IfOk result (λ code. DeliversTo X.meaning (X.machine self.old.app) tx.now code (X.machine self.new.app)) }
         ensures err { OnErr result (LosesWork (X.machine self.old.app) (X.machine self.new.app)) }
         ensures counts { self.new.refused ≡ self.old.refused - 1 }
         ensures refuses { self.old.refused ≡ 1 → IsErr result }

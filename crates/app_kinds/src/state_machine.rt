@@ -20,7 +20,7 @@ impl<S: KindState> Model for StateMachine<S> {
     ghost use Rattle.std.specs.Prelude.{◌≡◌, ◌+◌, ◌<◌, ◌^◌};
     ghost use Rattle.std.specs.Option.{option_map, ForSome};
     ghost use Rattle.sha2.specs.Sha256.{sha256};
-    ghost use Rattle.ledger_model.specs.Applications.{Machine, state_bytes};
+    ghost use Rattle.ledger_model.specs.Applications.{Machine};
 
     ghost Value = { Machine };
 
@@ -31,7 +31,7 @@ impl<S: KindState> Model for StateMachine<S> {
       height = m.height;
     } };
 
-    ghost invariant = { λ m. ForSome m.working (λ _. m.height + 1 < 2 ^ 32) × (m.hash ≡ sha256 (state_bytes (S.state m.committed))) };
+    ghost invariant = { λ m. ForSome m.working (λ _. m.height + 1 < 2 ^ 32) × (m.hash ≡ sha256 (S.state m.committed)) };
 }
 
 impl<S: KindState> StateMachine<S> {
@@ -40,7 +40,7 @@ impl<S: KindState> StateMachine<S> {
 
     /// The application before the first block. Allocates nothing.
     pub fn new(alloc: Global) -> Self
-        ensures { result ≡ run S.of_kind [] }
+        ensures { result ≡ run S.meaning S.of_kind [] }
     {
         let committed = S::opening(alloc);
         let hash = committed.hash();
@@ -55,6 +55,8 @@ impl<S: KindState> StateMachine<S> {
 }
 
 impl<S: KindState> Application for StateMachine<S> {
+    ghost meaning = { S.meaning };
+
     ghost machine = { λ m. m };
 
     fn info(&self) -> Info {

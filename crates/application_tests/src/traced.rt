@@ -58,6 +58,8 @@ impl<X: Application> Traced<X> {
 }
 
 impl<X: Application> Application for Traced<X> {
+    ghost meaning = { X.meaning };
+
     ghost machine = { λ t. X.machine t.app };
 
     fn info(&self) -> Info {

@@ -1,4 +1,5 @@
 -- The results of a pool's calls, given the blocks that led to the application's committed state.
+use Rattle.ledger_model.specs.Meanings.{Meanings}
 use Rattle.std.specs.Prelude.{◌≡◌, ℕ, ◌==◌, Bool, List, Option, Some, None, Result, Ok, Err}
 use Rattle.ledger_model.specs.declared.reply.SubmitRefusal.{SubmitRefusal}
 use Rattle.ledger_model.specs.declared.reply.SubmitRefusal.TheVariants as refusal
@@ -27,16 +28,17 @@ pool_part (Err (fault.Refused (refusal.Rejected code))) = Ok tt
 pool_part (Err fault.NoMemory) = Ok tt
 
 -- the answer to a submit, given the blocks that led to the application's committed state
-abbrev pub AnswersSubmission : Machine → Value → List ℕ → Result (Unit {0}) SubmitRefusal → Type 0
-AnswersSubmission m pool tx answer =
-    (batches : List Value) → without_work m ≡ run m.kind batches → answer ≡ submit_answer pool tx (check_reply m.kind batches tx)
+abbrev pub AnswersSubmission : Meanings → Machine → Value → List ℕ → Result (Unit {0}) SubmitRefusal → Type 0
+AnswersSubmission meaning m pool tx answer =
+    (batches : List Value) → without_work m ≡ run meaning m.kind batches
+    → answer ≡ submit_answer pool tx (check_reply meaning m.kind batches tx)
 
 -- the transactions that wait after the application ran blocks of which `block` is the last
-abbrev pub LeavesWaiting : Machine → Value → Value → Value → Type 0
-LeavesWaiting m block old new =
-    (batches : List Value) → without_work m ≡ run m.kind batches → new ≡ left_after block (check_reply m.kind batches) old
+abbrev pub LeavesWaiting : Meanings → Machine → Value → Value → Value → Type 0
+LeavesWaiting meaning m block old new =
+    (batches : List Value) → without_work m ≡ run meaning m.kind batches → new ≡ left_after block (check_reply meaning m.kind batches) old
 
 -- whether CheckTx accepts the transaction, given the blocks that led to the application's committed state
-abbrev pub StaysBy : Machine → List ℕ → Bool → Type 0
-StaysBy m tx answer =
-    (batches : List Value) → without_work m ≡ run m.kind batches → answer ≡ (check_reply m.kind batches tx == 0)
+abbrev pub StaysBy : Meanings → Machine → List ℕ → Bool → Type 0
+StaysBy meaning m tx answer =
+    (batches : List Value) → without_work m ≡ run meaning m.kind batches → answer ≡ (check_reply meaning m.kind batches tx == 0)

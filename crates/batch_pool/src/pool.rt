@@ -85,7 +85,7 @@ impl Pool {
     /// don't depend on memory, and `NoMemory` comes only if none of them applies. After a fault the pool is unchanged.
     pub fn submit<A: Application>(&mut self, bytes: &[u8], app: &A) -> Result<(), SubmitFault>
         ensures own { pool_part result ≡ first_fault (own_refusals self.old bytes.now) tt }
-        ensures answer { IfSome (answer_of result) (AnswersSubmission (A.machine app.now) self.old bytes.now) }
+        ensures answer { IfSome (answer_of result) (AnswersSubmission A.meaning (A.machine app.now) self.old bytes.now) }
         ensures pool { self.new ≡ (if is_ok result then self.old ++ bytes.now ∷ [] else self.old) }
     {
         if let Err(refusal) = self.own_refusal(bytes) {
@@ -148,7 +148,7 @@ impl Pool {
     ///
     /// Allocates nothing.
     pub fn after_block<A: Application>(&mut self, block: &Batch, app: &A)
-        ensures { LeavesWaiting (A.machine app.now) block.now self.old self.new }
+        ensures { LeavesWaiting A.meaning (A.machine app.now) block.now self.old self.new }
     {
         self.waiting.retain(
             |_key: &Vec<u8>, tx: &mut Tx| -> bool
@@ -157,7 +157,7 @@ impl Pool {
         );
         self.waiting.retain(
             |_key: &Vec<u8>, tx: &mut Tx| -> bool
-                ensures { StaysBy (A.machine app.entry.now) tx.old result × (tx.new ≡ tx.old) }
+                ensures { StaysBy A.meaning (A.machine app.entry.now) tx.old result × (tx.new ≡ tx.old) }
             { stays(tx, app) },
         );
     }
@@ -184,7 +184,7 @@ fn is_in(block: &Batch, tx: &Tx) -> bool
 
 /// Whether the application still accepts a transaction.
 fn stays<A: Application>(tx: &Tx, app: &A) -> bool
-    ensures { StaysBy (A.machine app.now) tx.now result }
+    ensures { StaysBy A.meaning (A.machine app.now) tx.now result }
 {
     app.check_tx(tx, CheckKind::Recheck) == 0
 }

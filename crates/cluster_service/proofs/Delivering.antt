@@ -1,4 +1,5 @@
 -- The first block among the entries of a history that has a transaction, entry by entry.
+use Rattle.ledger_model.specs.Meanings.{Meanings}
 use Rattle.std.proofs.Common.{◌≡◌, ℕ, ◌+◌, ◌≤◌, List, ◌∷◌, suc, length, drop, ap, sym, ◌∙◌, arith}
 use Rattle.std.specs.Option.{option_or}
 use Rattle.std.specs.Prelude.{Option, Some, None, slice_get}
@@ -37,17 +38,18 @@ module _ (batches : List Value) (es : List Entry) (tx : List ℕ) (i : ℕ) wher
         ∙ ap (λ o. option_or o (delivered_in batches (drop (suc i) es) tx)) (sym (by ∙ ap (λ s. delivered_by batches s tx) same)))
 
 -- what was run by an entry or a later one was run by an earlier entry or a later one
-from_earlier : (tx : List ℕ) (index next height code : ℕ) (state : StateView) → index ≤ next
-    → IsDelivery tx next height code state → IsDelivery tx index height code state
-from_earlier tx index next height code state before is = record {
+from_earlier : (meaning : Meanings) (tx : List ℕ) (index next height code : ℕ) (state : StateView) → index ≤ next
+    → IsDelivery meaning tx next height code state → IsDelivery meaning tx index height code state
+from_earlier meaning tx index next height code state before is = record {
   replay = is.replay;
   after = is.after;
   later = omega (arith, before, is.later);
   found = is.found;
 }
 
-pub seen_earlier : (cluster : RunningClusterView) (r : ℕ) (seen : Option StateView) (tx : List ℕ) (index next height code : ℕ) → index ≤ next
-    → SeesOwn cluster r seen (IsDelivery tx next height code) → SeesOwn cluster r seen (IsDelivery tx index height code)
-seen_earlier cluster r (Some state) tx index next height code before sees =
-    (sees.0, from_earlier tx index next height code state before sees.1)
-seen_earlier cluster r None tx index next height code before sees = absurd sees
+pub seen_earlier : (meaning : Meanings) (cluster : RunningClusterView) (r : ℕ) (seen : Option StateView) (tx : List ℕ)
+    (index next height code : ℕ) → index ≤ next
+    → SeesOwn cluster r seen (IsDelivery meaning tx next height code) → SeesOwn cluster r seen (IsDelivery meaning tx index height code)
+seen_earlier meaning cluster r (Some state) tx index next height code before sees =
+    (sees.0, from_earlier meaning tx index next height code state before sees.1)
+seen_earlier meaning cluster r None tx index next height code before sees = absurd sees

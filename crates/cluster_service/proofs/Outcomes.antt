@@ -1,4 +1,5 @@
 -- What an exchange says of a call's result, from what the call promises of it.
+use Rattle.ledger_model.specs.Meanings.{Meanings}
 use Rattle.std.proofs.Common.{◌≡◌, ℕ, ◌<◌, ◌≤◌, true, List, length, refl}
 use Rattle.std.specs.Prelude.{None, Result, Ok, Err, IfOk, OnOk, OnErr, IsErrOf}
 use Rattle.ledger_model.specs.declared.event.Event.TheVariants as event
@@ -13,11 +14,11 @@ use Rattle.locked_replica.specs.States.{StateView}
 use Rattle.replica_turns.specs.Clients.{IsReceipt, is_tx_len, submit_events, with_index}
 use Rattle.cluster_service.specs.Targets.{AnswersQuery, AnswersSubmit}
 
-pub submit_outcome : (old new : StateView) (tx : List ℕ) (r : Result (Result ℕ SubmitRefusal) ApplyFault)
-    → IfOk r (λ answer. answer ≡ with_index (length old.entries) (submit_reply old.config old.id old.entries tx))
-    → IfOk r (λ answer. IsReceipt new.entries tx answer) → OnOk r (AppliesEach old (submit_events tx) new)
-    → OnErr r (is_tx_len tx ≡ true) → IsSound new → new.used ≡ old.used → AnswersSubmit tx r
-submit_outcome old new tx (Ok answer) answered receipt applied needed sound unsigned = record {
+pub submit_outcome : (meaning : Meanings) (old new : StateView) (tx : List ℕ) (r : Result (Result ℕ SubmitRefusal) ApplyFault)
+    → IfOk r (λ answer. answer ≡ with_index (length old.entries) (submit_reply meaning old.config old.id old.entries tx))
+    → IfOk r (λ answer. IsReceipt new.entries tx answer) → OnOk r (AppliesEach meaning old (submit_events tx) new)
+    → OnErr r (is_tx_len tx ≡ true) → IsSound meaning new → new.used ≡ old.used → AnswersSubmit meaning tx r
+submit_outcome meaning old new tx (Ok answer) answered receipt applied needed sound unsigned = record {
   old = old;
   new = new;
   applied = applied;
@@ -26,16 +27,17 @@ submit_outcome old new tx (Ok answer) answered receipt applied needed sound unsi
   receipt = receipt;
   unsigned = unsigned;
 }
-submit_outcome old new tx (Err why) answered receipt applied needed sound unsigned = needed
+submit_outcome meaning old new tx (Err why) answered receipt applied needed sound unsigned = needed
 
-pub query_outcome : (old new : StateView) (key : List ℕ) (r : Result QueryAnswer ApplyFault)
-    → (length key ≤ 64 → OnOk r (AppliesEvent old (event.Query key 0) new))
-    → (length key ≤ 64 → IfOk r (λ answer. Ok answer ≡ query_reply old.config.kind (commits_of old.config old.id old.entries) key 0))
+pub query_outcome : (meaning : Meanings) (old new : StateView) (key : List ℕ) (r : Result QueryAnswer ApplyFault)
+    → (length key ≤ 64 → OnOk r (AppliesEvent meaning old (event.Query key 0) new))
+    → (length key ≤ 64 → IfOk r (λ answer. Ok answer ≡ query_reply meaning old.config.kind
+    (commits_of old.config old.id old.entries) key 0))
     → (64 < length key → IfOk r (λ answer. answer
     ≡ record { height = length (commits_of old.config old.id old.entries); value = None }))
-    → (64 < length key → new ≡ old) → (IsErrOf r fault.HistoryFull → length key ≤ 64) → IsSound new → new.used ≡ old.used
-    → AnswersQuery key r
-query_outcome old new key (Ok answer) applied answered long same full sound unsigned = record {
+    → (64 < length key → new ≡ old) → (IsErrOf r fault.HistoryFull → length key ≤ 64) → IsSound meaning new → new.used ≡ old.used
+    → AnswersQuery meaning key r
+query_outcome meaning old new key (Ok answer) applied answered long same full sound unsigned = record {
   old = old;
   new = new;
   applied = applied;
@@ -45,5 +47,5 @@ query_outcome old new key (Ok answer) applied answered long same full sound unsi
   long = long;
   unsigned = unsigned;
 }
-query_outcome old new key (Err fault.HistoryFull) applied answered long same full sound unsigned = full refl
-query_outcome old new key (Err fault.NoMemory) applied answered long same full sound unsigned = tt
+query_outcome meaning old new key (Err fault.HistoryFull) applied answered long same full sound unsigned = full refl
+query_outcome meaning old new key (Err fault.NoMemory) applied answered long same full sound unsigned = tt

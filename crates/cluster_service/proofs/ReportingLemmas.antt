@@ -1,4 +1,5 @@
 -- The lines of one more replica, and the texts that are written.
+use Rattle.ledger_model.specs.Meanings.{Meanings}
 use Rattle.std.proofs.Common.{◌≡◌, ℕ, ◌+◌, List, [], ◌∷◌, ◌++◌, length, ◌<◌, ◌≤◌, take, get_or, refl, sym, ap, ◌∙◌, append_assoc}
 use Rattle.std.proofs.Common.{append-nil, inl, inr, subst, suc, arith}
 use Rattle.std.specs.Prelude.{Option, Result, Ok, Err, IfErr, MatchResult}
@@ -31,15 +32,15 @@ use Rattle.cluster_service.specs.Reporting.{WritesFinding, WritesSuch}
 use Rattle.cluster_service.proofs.Taken.{ledger_or_unsent}
 
 -- one more replica's history was taken
-module _ (config : Config) (ring : Ring) where
-  pub one_taken : (first : ℕ) (ms : List History) (hs : List ℕ) (m : History) (h : ℕ) → AreTaken config ring first ms hs
-      → IsTaken config ring (first + length hs) m h → AreTaken config ring first (ms ++ m ∷ []) (hs ++ h ∷ [])
+module _ (meaning : Meanings) (config : Config) (ring : Ring) where
+  pub one_taken : (first : ℕ) (ms : List History) (hs : List ℕ) (m : History) (h : ℕ) → AreTaken meaning config ring first ms hs
+      → IsTaken meaning config ring (first + length hs) m h → AreTaken meaning config ring first (ms ++ m ∷ []) (hs ++ h ∷ [])
   one_taken first [] [] m h all one =
       let same : first + 0 ≡ first = omega arith in
-      (subst (λ k. IsTaken config ring k m h) same one, tt)
+      (subst (λ k. IsTaken meaning config ring k m h) same one, tt)
   one_taken first (m1 ∷ ms) (h1 ∷ hs) m h all one =
       let same : first + suc (length hs) ≡ first + 1 + length hs = omega arith in
-      (all.0, one_taken (first + 1) ms hs m h all.1 (subst (λ k. IsTaken config ring k m h) same one))
+      (all.0, one_taken (first + 1) ms hs m h all.1 (subst (λ k. IsTaken meaning config ring k m h) same one))
   one_taken first [] (h1 ∷ hs) m h all one = absurd all
   one_taken first (m1 ∷ ms) [] m h all one = absurd all
 
@@ -119,68 +120,71 @@ saved_some named (fault.NoFile path error) empty full bytes is some = some
 saved_some named (fault.Stranger replica) empty full bytes is some = absurd is
 
 -- histories that were taken under the keys of the settings
-pub taken_by : (s : ClusterSettings) (ring : Ring) (histories : List History) (heights : List ℕ) → ring ≡ ring_of s.cluster
-    → AreTaken s.cluster.config ring 0 histories heights → AreTaken s.cluster.config (ring_of s.cluster) 0 histories heights
-taken_by s ring histories heights keys taken = subst (λ r. AreTaken s.cluster.config r 0 histories heights) keys taken
+pub taken_by : (meaning : Meanings) (s : ClusterSettings) (ring : Ring) (histories : List History) (heights : List ℕ)
+    → ring ≡ ring_of s.cluster
+    → AreTaken meaning s.cluster.config ring 0 histories heights → AreTaken meaning s.cluster.config (ring_of s.cluster) 0 histories heights
+taken_by meaning s ring histories heights keys taken = subst (λ r. AreTaken meaning s.cluster.config r 0 histories heights) keys taken
 
-module _ (s : ClusterSettings) (histories : List History) (heights : List ℕ)
-    (each : length heights ≡ s.cluster.config.replicas) (taken : AreTaken s.cluster.config (ring_of s.cluster) 0 histories heights) where
-  reported : (finding : Result (List Value) AuditFault) (status : ℕ)
-      → IsFinding s.cluster.config (ring_of s.cluster) histories finding → status ≡ finding_status finding
-      → Reports s status (commit_lines 0 heights ++ finding_text finding) (flat_map history_bytes histories)
-  reported finding status found ends = record {
-    histories = histories;
-    heights = heights;
-    each = each;
-    taken = taken;
-    finding = finding;
-    found = found;
-    sound = ledger_or_unsent s.cluster.config (ring_of s.cluster) histories heights finding taken each found;
-    ends = ends;
-    shows = refl;
-    saves = refl;
-  }
+module _ (meaning : Meanings) (s : ClusterSettings) (histories : List History) (heights : List ℕ)
+    (each : length heights ≡ s.cluster.config.replicas) (taken : AreTaken meaning s.cluster.config (ring_of s.cluster) 0 histories heights)
+  where
+    reported : (finding : Result (List Value) AuditFault) (status : ℕ)
+        → IsFinding meaning s.cluster.config (ring_of s.cluster) histories finding → status ≡ finding_status finding
+        → Reports meaning s status (commit_lines 0 heights ++ finding_text finding) (flat_map history_bytes histories)
+    reported finding status found ends = record {
+      histories = histories;
+      heights = heights;
+      each = each;
+      taken = taken;
+      finding = finding;
+      found = found;
+      sound = ledger_or_unsent meaning s.cluster.config (ring_of s.cluster) histories heights finding taken each found;
+      ends = ends;
+      shows = refl;
+      saves = refl;
+    }
 
-  reported_commits : ReportsCommits s (commit_lines 0 heights) (flat_map history_bytes histories)
-  reported_commits = record { histories = histories; heights = heights; each = each; taken = taken; shows = refl; saves = refl }
+    reported_commits : ReportsCommits meaning s (commit_lines 0 heights) (flat_map history_bytes histories)
+    reported_commits = record { histories = histories; heights = heights; each = each; taken = taken; shows = refl; saves = refl }
 
-  -- the lines that were written, in whole or in part, and the histories that belong to them
-  lines_end : {E : Type 0} (r : Result ℕ E) (a b : Option (List ℕ))
-      → WritesFinding s.cluster.config (ring_of s.cluster) histories heights r a b
-      → (lines : List ℕ) × (ReportsEnd s lines (flat_map history_bytes histories) × AppendsSome a b lines)
-  lines_end (Ok status) a b w =
-      let lines = commit_lines 0 heights ++ finding_text w.0 in
-      (lines, (inr (status, reported w.0 status w.1.0 w.1.1.0), all_some a b lines w.1.1.1))
-  lines_end (Err e) a b (inl some) = (commit_lines 0 heights, (inl reported_commits, some))
-  lines_end (Err e) a b (inr w) =
-      (commit_lines 0 heights ++ finding_text w.0, (inr (finding_status w.0, reported w.0 (finding_status w.0) w.1.0 refl), w.1.1))
+    -- the lines that were written, in whole or in part, and the histories that belong to them
+    lines_end : {E : Type 0} (r : Result ℕ E) (a b : Option (List ℕ))
+        → WritesFinding meaning s.cluster.config (ring_of s.cluster) histories heights r a b
+        → (lines : List ℕ) × (ReportsEnd meaning s lines (flat_map history_bytes histories) × AppendsSome a b lines)
+    lines_end (Ok status) a b w =
+        let lines = commit_lines 0 heights ++ finding_text w.0 in
+        (lines, (inr (status, reported w.0 status w.1.0 w.1.1.0), all_some a b lines w.1.1.1))
+    lines_end (Err e) a b (inl some) = (commit_lines 0 heights, (inl reported_commits, some))
+    lines_end (Err e) a b (inr w) =
+        (commit_lines 0 heights ++ finding_text w.0, (inr (finding_status w.0, reported w.0 (finding_status w.0) w.1.0 refl), w.1.1))
 
-  -- all histories were saved, whatever became of the lines
-  pub report_saved : (r : Result ℕ ProgramFault) (a b empty full : Option (List ℕ))
-      → WritesFinding s.cluster.config (ring_of s.cluster) histories heights r a b → IfErr r IsLineFault
-      → Appends empty full (flat_map history_bytes histories) → WritesSuch r (Reports s) (λ _. ReportsEnd s) a b empty full
-  report_saved (Ok status) a b empty full w line saved = (
-    commit_lines 0 heights ++ finding_text w.0,
-    (flat_map history_bytes histories, (reported w.0 status w.1.0 w.1.1.0, (w.1.1.1, saved))),
-  )
-  report_saved (Err f) a b empty full w line saved =
-      let l = lines_end (Err f) a b w in
-      (l.0, (flat_map history_bytes histories, (l.1.0, (l.1.1, saved_beside f empty full (flat_map history_bytes histories) line saved))))
+    -- all histories were saved, whatever became of the lines
+    pub report_saved : (r : Result ℕ ProgramFault) (a b empty full : Option (List ℕ))
+        → WritesFinding meaning s.cluster.config (ring_of s.cluster) histories heights r a b → IfErr r IsLineFault
+        → Appends empty full (flat_map history_bytes histories) → WritesSuch r (Reports meaning s) (λ _. ReportsEnd meaning s) a b empty full
+    report_saved (Ok status) a b empty full w line saved = (
+      commit_lines 0 heights ++ finding_text w.0,
+      (flat_map history_bytes histories, (reported w.0 status w.1.0 w.1.1.0, (w.1.1.1, saved))),
+    )
+    report_saved (Err f) a b empty full w line saved =
+        let l = lines_end (Err f) a b w in
+        (l.0, (flat_map history_bytes histories, (l.1.0, (l.1.1, saved_beside f empty full (flat_map history_bytes histories) line saved))))
 
-  -- the file refused a write, whatever became of the lines
-  pub report_unsaved : (r : Result ℕ ProgramFault) (named : Option (List ℕ)) (f : ProgramFault) (a b empty full : Option (List ℕ))
-      → WritesFinding s.cluster.config (ring_of s.cluster) histories heights r a b → IsSaveFault named f
-      → AppendsSome empty full (flat_map history_bytes histories) → WrittenSome (λ _. ReportsEnd s) f a b empty full
-  report_unsaved r named f a b empty full w is some =
-      let l = lines_end r a b w in
-      (l.0, (flat_map history_bytes histories, (l.1.0, (l.1.1, saved_some named f empty full (flat_map history_bytes histories) is some))))
+    -- the file refused a write, whatever became of the lines
+    pub report_unsaved : (r : Result ℕ ProgramFault) (named : Option (List ℕ)) (f : ProgramFault) (a b empty full : Option (List ℕ))
+        → WritesFinding meaning s.cluster.config (ring_of s.cluster) histories heights r a b → IsSaveFault named f
+        → AppendsSome empty full (flat_map history_bytes histories) → WrittenSome (λ _. ReportsEnd meaning s) f a b empty full
+    report_unsaved r named f a b empty full w is some =
+        let l = lines_end r a b w in
+        (l.0, (flat_map history_bytes histories, (l.1.0, (l.1.1, saved_some named f empty full (flat_map history_bytes histories) is some))))
 
 -- nothing was written
-pub nothing_ran : (s : ClusterSettings) (f : ProgramFault) (a empty : Option (List ℕ)) → IsRunFault f
-    → WrittenSome (ReportsSome s) f a a empty empty
-nothing_ran s f a empty is = ([], ([], (inl (is, (refl, refl)), (nothing_some a [], nothing_saved f empty))))
+pub nothing_ran : (meaning : Meanings) (s : ClusterSettings) (f : ProgramFault) (a empty : Option (List ℕ)) → IsRunFault f
+    → WrittenSome (ReportsSome meaning s) f a a empty empty
+nothing_ran meaning s f a empty is = ([], ([], (inl (is, (refl, refl)), (nothing_some a [], nothing_saved f empty))))
 
 -- a cluster that was run to its end
-pub ran : (s : ClusterSettings) (r : Result ℕ ProgramFault) (a b empty full : Option (List ℕ))
-    → WritesSuch r (Reports s) (λ _. ReportsEnd s) a b empty full → WritesSuch r (Reports s) (ReportsSome s) a b empty full
-ran s r a b empty full ended = each_way _ _ _ _ r (λ status w. w) (λ _ w. (w.0, (w.1.0, (inr w.1.1.0, w.1.1.1)))) ended
+pub ran : (meaning : Meanings) (s : ClusterSettings) (r : Result ℕ ProgramFault) (a b empty full : Option (List ℕ))
+    → WritesSuch r (Reports meaning s) (λ _. ReportsEnd meaning s) a b empty full
+    → WritesSuch r (Reports meaning s) (ReportsSome meaning s) a b empty full
+ran meaning s r a b empty full ended = each_way _ _ _ _ r (λ status w. w) (λ _ w. (w.0, (w.1.0, (inr w.1.1.0, w.1.1.1)))) ended

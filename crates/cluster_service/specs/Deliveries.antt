@@ -1,4 +1,5 @@
 -- What became of a transaction, by a replica's history.
+use Rattle.ledger_model.specs.Meanings.{Meanings}
 use Rattle.std.specs.Prelude.{ℕ, ◌≤◌, List, [], ◌∷◌, position, slice_get, Option, Some, None, option_and_then, option_map, Ok, ◌≡◌, drop}
 use Rattle.std.specs.Option.{option_or}
 use Rattle.std.specs.Str.{bytes_eq}
@@ -32,8 +33,8 @@ delivered_in batches (e ∷ es) tx = option_or (delivered_by batches e.reply tx)
 
 -- the state, whose history is lawful, has run a block at this height, by the entry with this index or a later one; the block has the
 -- transaction, and the application returned this code for it
-pub record IsDelivery (tx : List ℕ) (index height code : ℕ) (state : StateView) : Type 0 where
-  pub replay : Replay state.config state.ring state.id state.entries
+pub record IsDelivery (meaning : Meanings) (tx : List ℕ) (index height code : ℕ) (state : StateView) : Type 0 where
+  pub replay : Replay meaning state.config state.ring state.id state.entries
   pub after : ℕ
   pub later : index ≤ after
   pub found : delivered_in (commits_of state.config state.id state.entries) (drop after state.entries) tx ≡ Some (height, code)

@@ -1,4 +1,5 @@
 -- What is answered to HTTP alone: the state that was seen under the replica's lock is that replica's, and the answer follows from it.
+use Rattle.ledger_model.specs.Meanings.{Meanings}
 use Rattle.std.specs.Prelude.{◌≡◌, ℕ, ◌+◌, ◌^◌, ◌-◌, ⊤, List, drop, length, min, sum_by, Option, Some, None, slice_get}
 use Rattle.http_messages.specs.FrameCounts.{ignored_for}
 use Rattle.http_messages.specs.declared.metrics.ReplicaMetrics.{ReplicaMetrics}
@@ -20,40 +21,40 @@ use Rattle.cluster_service.specs.FrameCounting.{accepted_in, ignored_in}
 
 -- These numbers are of this state, whose history is lawful. The history doesn't say how many frames its inbox lost, nor how many
 -- signatures were lost at round ends that found no memory.
-pub record ShowsState (m : ReplicaMetrics) (state : StateView) : Type 0 where
-  pub replay : Replay state.config state.ring state.id state.entries
+pub record ShowsState (meaning : Meanings) (m : ReplicaMetrics) (state : StateView) : Type 0 where
+  pub replay : Replay meaning state.config state.ring state.id state.entries
   pub account : AccountsForLeaves state
   pub own_key : slice_get state.ring state.id ≡ Some (public_key_of state.secret)
   pub rounds : m.rounds ≡ clock_at state.entries
   pub height : m.height ≡ length (commits_of state.config state.id state.entries)
   pub signatures : state.used + m.signatures_left ≡ leaves_of state.secret
-  pub pool : m.pool_transactions ≡ length (pool_of state.config state.id state.entries)
+  pub pool : m.pool_transactions ≡ length (pool_of meaning state.config state.id state.entries)
   pub entries : m.history_entries ≡ length state.entries
   pub accepted : m.frames.accepted ≡ accepted_in state.entries
   pub ignored : (cause : Ignored) → ignored_for m.frames cause ≡ ignored_in cause state.entries
 
 -- the open round of the state, whose history is lawful, and the height that it has committed
-pub record IsProgress (progress : Progress) (state : StateView) : Type 0 where
-  pub replay : Replay state.config state.ring state.id state.entries
+pub record IsProgress (meaning : Meanings) (progress : Progress) (state : StateView) : Type 0 where
+  pub replay : Replay meaning state.config state.ring state.id state.entries
   pub rounds : progress.rounds ≡ clock_at state.entries
   pub height : progress.height ≡ length (commits_of state.config state.id state.entries)
 
 -- the state, whose history is lawful, has this number of transactions in its pool, and they have this number of bytes
-pub record IsPooled (size : PoolSize) (state : StateView) : Type 0 where
-  pub replay : Replay state.config state.ring state.id state.entries
-  pub transactions : size.transactions ≡ length (pool_of state.config state.id state.entries)
-  pub bytes : size.bytes ≡ min (sum_by length (pool_of state.config state.id state.entries)) (2 ^ 64 - 1)
+pub record IsPooled (meaning : Meanings) (size : PoolSize) (state : StateView) : Type 0 where
+  pub replay : Replay meaning state.config state.ring state.id state.entries
+  pub transactions : size.transactions ≡ length (pool_of meaning state.config state.id state.entries)
+  pub bytes : size.bytes ≡ min (sum_by length (pool_of meaning state.config state.id state.entries)) (2 ^ 64 - 1)
 
 -- the application of the state, whose history is lawful, says this of itself
-pub record IsInfo (info : AppInfo) (state : StateView) : Type 0 where
-  pub replay : Replay state.config state.ring state.id state.entries
+pub record IsInfo (meaning : Meanings) (info : AppInfo) (state : StateView) : Type 0 where
+  pub replay : Replay meaning state.config state.ring state.id state.entries
   pub kind : info.kind ≡ state.config.kind
   pub reply : record { height = info.height; hash = info.hash }
-      ≡ info_reply state.config.kind (commits_of state.config state.id state.entries)
+      ≡ info_reply meaning state.config.kind (commits_of state.config state.id state.entries)
 
 -- no block of the state, whose history is lawful, has the transaction, from the entry with this index on
-pub record IsUndelivered (tx : List ℕ) (index : ℕ) (state : StateView) : Type 0 where
-  pub replay : Replay state.config state.ring state.id state.entries
+pub record IsUndelivered (meaning : Meanings) (tx : List ℕ) (index : ℕ) (state : StateView) : Type 0 where
+  pub replay : Replay meaning state.config state.ring state.id state.entries
   pub none : delivered_in (commits_of state.config state.id state.entries) (drop index state.entries) tx ≡ None
 
 -- the state that was seen last is this replica's, and this holds of it
@@ -67,21 +68,22 @@ SeesStranger cluster r (Some state) = IsStateOf cluster r state → ⊥
 SeesStranger cluster r None = ⊥
 
 -- what became of a transaction that the entry with this index submitted; that the server is to stop says nothing
-abbrev pub AnswersWait : RunningClusterView → ℕ → Option StateView → List ℕ → ℕ → Option Delivery → Type 0
-AnswersWait cluster r seen tx index (Some (Committed height code)) = SeesOwn cluster r seen (IsDelivery tx index height code)
-AnswersWait cluster r seen tx index (Some TimedOut) = SeesOwn cluster r seen (IsUndelivered tx index)
-AnswersWait cluster r seen tx index (Some Stopping) = ⊤
-AnswersWait cluster r seen tx index None = SeesStranger cluster r seen
+abbrev pub AnswersWait : Meanings → RunningClusterView → ℕ → Option StateView → List ℕ → ℕ → Option Delivery → Type 0
+AnswersWait meaning cluster r seen tx index (Some (Committed height code)) = SeesOwn cluster r seen
+    (IsDelivery meaning tx index height code)
+AnswersWait meaning cluster r seen tx index (Some TimedOut) = SeesOwn cluster r seen (IsUndelivered meaning tx index)
+AnswersWait meaning cluster r seen tx index (Some Stopping) = ⊤
+AnswersWait meaning cluster r seen tx index None = SeesStranger cluster r seen
 
 -- what an inquiry says, by the state that was seen last in it; that a transaction was spread says nothing
-abbrev pub IsInquiry : RunningClusterView → Option StateView → Inquiry → Type 0
-IsInquiry cluster seen (Shows r (Some m)) = SeesOwn cluster r seen (ShowsState m)
-IsInquiry cluster seen (Shows r None) = SeesStranger cluster r seen
-IsInquiry cluster seen (Progresses r (Some progress)) = SeesOwn cluster r seen (IsProgress progress)
-IsInquiry cluster seen (Progresses r None) = SeesStranger cluster r seen
-IsInquiry cluster seen (Pools r (Some size)) = SeesOwn cluster r seen (IsPooled size)
-IsInquiry cluster seen (Pools r None) = SeesStranger cluster r seen
-IsInquiry cluster seen (Infos r (Some info)) = SeesOwn cluster r seen (IsInfo info)
-IsInquiry cluster seen (Infos r None) = SeesStranger cluster r seen
-IsInquiry cluster seen (Spreads r tx) = ⊤
-IsInquiry cluster seen (Waits r tx index delivery) = AnswersWait cluster r seen tx index delivery
+abbrev pub IsInquiry : Meanings → RunningClusterView → Option StateView → Inquiry → Type 0
+IsInquiry meaning cluster seen (Shows r (Some m)) = SeesOwn cluster r seen (ShowsState meaning m)
+IsInquiry meaning cluster seen (Shows r None) = SeesStranger cluster r seen
+IsInquiry meaning cluster seen (Progresses r (Some progress)) = SeesOwn cluster r seen (IsProgress meaning progress)
+IsInquiry meaning cluster seen (Progresses r None) = SeesStranger cluster r seen
+IsInquiry meaning cluster seen (Pools r (Some size)) = SeesOwn cluster r seen (IsPooled meaning size)
+IsInquiry meaning cluster seen (Pools r None) = SeesStranger cluster r seen
+IsInquiry meaning cluster seen (Infos r (Some info)) = SeesOwn cluster r seen (IsInfo meaning info)
+IsInquiry meaning cluster seen (Infos r None) = SeesStranger cluster r seen
+IsInquiry meaning cluster seen (Spreads r tx) = ⊤
+IsInquiry meaning cluster seen (Waits r tx index delivery) = AnswersWait meaning cluster r seen tx index delivery

@@ -1,4 +1,5 @@
 -- What `abft cluster` and `abft serve` write.
+use Rattle.ledger_model.specs.Meanings.{Meanings}
 use Rattle.std.specs.Prelude.{◌≡◌, ◌⊎◌, ℕ, ◌+◌, ⊤, List, [], ◌∷◌, ◌++◌, length, Option, Result, Ok, Err, MatchResult}
 use Rattle.std.specs.Io.KnownBytes.{Appends}
 use Rattle.std.specs.List.{flat_map}
@@ -23,18 +24,19 @@ use Rattle.cluster_service.specs.RunFaults.{IsRunFault}
 
 -- ---- what a cluster leaves
 
--- the history is the replica's at one moment, under the cluster's configuration and public keys; and the replica had committed this
--- number of blocks by then
-pub record IsTaken (config : Config) (ring : Ring) (replica : ℕ) (m : History) (height : ℕ) : Type 0 where
+-- the history has the replica's number, and is a replay under the cluster's configuration and public keys, which committed this number of
+-- blocks
+pub record IsTaken (meaning : Meanings) (config : Config) (ring : Ring) (replica : ℕ) (m : History) (height : ℕ) : Type 0 where
   pub own : m.replica ≡ replica
-  pub replay : Replay config ring replica m.entries
+  pub replay : Replay meaning config ring replica m.entries
   pub blocks : height ≡ length (commits_of config replica m.entries)
 
 -- the histories of replicas, from this number on, and the number of blocks that each had committed
-abbrev pub AreTaken : Config → Ring → ℕ → List History → List ℕ → Type 0
-AreTaken config ring first [] [] = ⊤
-AreTaken config ring first (m ∷ ms) (h ∷ hs) = IsTaken config ring first m h × AreTaken config ring (first + 1) ms hs
-AreTaken config ring first _ _ = ⊥
+abbrev pub AreTaken : Meanings → Config → Ring → ℕ → List History → List ℕ → Type 0
+AreTaken meaning config ring first [] [] = ⊤
+AreTaken meaning config ring first (m ∷ ms) (h ∷ hs) = IsTaken meaning config ring first m h
+    × AreTaken meaning config ring (first + 1) ms hs
+AreTaken meaning config ring first _ _ = ⊥
 
 -- The histories of all replicas are a quorum's, and replays. So an audit of them finds their ledger, or a statement that its signer
 -- didn't send.
@@ -45,48 +47,49 @@ IsLedgerOrUnsent (Err _) = ⊥
 
 -- The lines of replicas that committed these numbers of blocks were written, and then what the audit of these histories finds, which
 -- gives the exit status. After a fault a prefix of those lines was written, or of all.
-abbrev pub WritesFinding : {E : Type 0} → Config → Ring → List History → List ℕ → Result ℕ E → Option (List ℕ) → Option (List ℕ) → Type 0
-WritesFinding config ring histories heights result before after = MatchResult result
-    (λ status. (finding : Result (List Value) AuditFault) × (IsFinding config ring histories finding
+abbrev pub WritesFinding : Meanings → {E : Type 0} → Config → Ring → List History → List ℕ → Result ℕ E → Option (List ℕ) → Option (List ℕ)
+    → Type 0
+WritesFinding meaning config ring histories heights result before after = MatchResult result
+    (λ status. (finding : Result (List Value) AuditFault) × (IsFinding meaning config ring histories finding
     × ((status ≡ finding_status finding) × Appends before after (commit_lines 0 heights ++ finding_text finding))))
     (λ _. AppendsSome before after (commit_lines 0 heights)
-    ⊎ ((finding : Result (List Value) AuditFault) × (IsFinding config ring histories finding
+    ⊎ ((finding : Result (List Value) AuditFault) × (IsFinding meaning config ring histories finding
     × AppendsSome before after (commit_lines 0 heights ++ finding_text finding))))
 
 -- There is one line for each replica of the cluster, by number, with the blocks that it committed; then comes what the audit of their
 -- histories finds, which gives the exit status. The file has these histories.
-pub record Reports (s : ClusterSettings) (status : ℕ) (lines file : List ℕ) : Type 0 where
+pub record Reports (meaning : Meanings) (s : ClusterSettings) (status : ℕ) (lines file : List ℕ) : Type 0 where
   pub histories : List History
   pub heights : List ℕ
   pub each : length heights ≡ s.cluster.config.replicas
-  pub taken : AreTaken s.cluster.config (ring_of s.cluster) 0 histories heights
+  pub taken : AreTaken meaning s.cluster.config (ring_of s.cluster) 0 histories heights
   pub finding : Result (List Value) AuditFault
-  pub found : IsFinding s.cluster.config (ring_of s.cluster) histories finding
+  pub found : IsFinding meaning s.cluster.config (ring_of s.cluster) histories finding
   pub sound : IsLedgerOrUnsent finding
   pub ends : status ≡ finding_status finding
   pub shows : lines ≡ commit_lines 0 heights ++ finding_text finding
   pub saves : file ≡ flat_map history_bytes histories
 
 -- There are the lines of the replicas alone. The file has their histories.
-pub record ReportsCommits (s : ClusterSettings) (lines file : List ℕ) : Type 0 where
+pub record ReportsCommits (meaning : Meanings) (s : ClusterSettings) (lines file : List ℕ) : Type 0 where
   pub histories : List History
   pub heights : List ℕ
   pub each : length heights ≡ s.cluster.config.replicas
-  pub taken : AreTaken s.cluster.config (ring_of s.cluster) 0 histories heights
+  pub taken : AreTaken meaning s.cluster.config (ring_of s.cluster) 0 histories heights
   pub shows : lines ≡ commit_lines 0 heights
   pub saves : file ≡ flat_map history_bytes histories
 
 -- what a cluster that was run to its end has written, if a fault came then: prefixes of the lines of its replicas, or of all
-abbrev pub ReportsEnd : ClusterSettings → List ℕ → List ℕ → Type 0
-ReportsEnd s lines file = ReportsCommits s lines file ⊎ ((status : ℕ) × Reports s status lines file)
+abbrev pub ReportsEnd : Meanings → ClusterSettings → List ℕ → List ℕ → Type 0
+ReportsEnd meaning s lines file = ReportsCommits meaning s lines file ⊎ ((status : ℕ) × Reports meaning s status lines file)
 
 -- nothing
 abbrev pub ReportsNothing : List ℕ → List ℕ → Type 0
 ReportsNothing lines file = (lines ≡ []) × (file ≡ [])
 
 -- what a cluster that this fault ended has written prefixes of: nothing only if it was not run to its end
-abbrev pub ReportsSome : ClusterSettings → ProgramFault → List ℕ → List ℕ → Type 0
-ReportsSome s fault lines file = (IsRunFault fault × ReportsNothing lines file) ⊎ ReportsEnd s lines file
+abbrev pub ReportsSome : Meanings → ClusterSettings → ProgramFault → List ℕ → List ℕ → Type 0
+ReportsSome meaning s fault lines file = (IsRunFault fault × ReportsNothing lines file) ⊎ ReportsEnd meaning s lines file
 
 -- Such lines were written, and such bytes into the file. After a fault, prefixes of others were: of the file's bytes only if the fault is
 -- the file's own.

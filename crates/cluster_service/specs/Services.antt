@@ -1,4 +1,5 @@
 -- What the operator's settings say of a run, and what ran.
+use Rattle.ledger_model.specs.Meanings.{Meanings}
 use Rattle.std.specs.Prelude.{◌≡◌, ℕ, List, Option, option_map, replicate}
 use Rattle.cluster_workers.specs.RunningClusters.{EndedRunView, RunningClusterView, AreWorkersOf}
 use Rattle.cluster_setup.specs.declared.cluster_settings.ClusterSettings.{ClusterSettings}
@@ -8,12 +9,12 @@ use Rattle.cluster_service.specs.declared.protocol.Protocol.TheVariants as proto
 use Rattle.cluster_service.specs.Replicas.{all_begun}
 
 -- One worker ran for each replica's number; as they began, each had ended no round, and was to end as many as the settings say. That they
--- are the workers of the cluster beside them isn't said. The clock had the settings' base time, and each replica began with their
--- transaction in its pool.
-pub record IsRunOf (s : ClusterSettings) (run : EndedRunView) : Type 0 where
+-- are the workers of the cluster beside them isn't said. The clock had the settings' base time, and to each replica their
+-- transaction had been submitted.
+pub record IsRunOf (meaning : Meanings) (s : ClusterSettings) (run : EndedRunView) : Type 0 where
   pub workers : AreWorkersOf s.cluster.config.replicas s.cluster.config.frames s.rounds run.workers
   pub base_ms : run.base_ms ≡ s.base_ms
-  pub begun : run.cluster.begun ≡ all_begun s.cluster s.tx
+  pub begun : run.cluster.begun ≡ all_begun meaning s.cluster s.tx
 
 -- how clients were served at one port of 127.0.0.1: the port, what was spoken there, the cluster whose replicas were asked, the seats that
 -- clients had, and how many entries of each replica's history they might use together

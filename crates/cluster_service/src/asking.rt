@@ -23,16 +23,16 @@ pub(crate) fn submit<A: Application>(
     tx: &[u8],
 ) -> Result<Result<u32, SubmitRefusal>, ApplyFault>
     ensures answer { IfOk result (λ answer. answer ≡ with_index (length state.old.entries)
-        (submit_reply state.old.config state.old.id state.old.entries tx.now)) }
+        (submit_reply A.meaning state.old.config state.old.id state.old.entries tx.now)) }
     // The entry with the index is the Submit of these bytes that the pool took.
     ensures receipt { IfOk result (λ answer. IsReceipt state.new.entries tx.now answer) }
-    ensures applied { OnOk result (AppliesEach state.old (submit_events tx.now) state.new) }
+    ensures applied { OnOk result (AppliesEach A.meaning state.old (submit_events tx.now) state.new) }
     ensures used { length state.new.entries + entries.new ≡ length state.old.entries + entries.old }
     ensures full { IsErrOf result ApplyFault.HistoryFull
         ↔ ((is_tx_len tx.now ≡ true) × ((entries.old ≡ 0) ⊎ (max_history_len ≤ length state.old.entries))) }
     ensures same { OnErr result (state.new ≡ state.old) }
     // The result as a session sees it.
-    ensures outcome { AnswersSubmit tx.now result }
+    ensures outcome { AnswersSubmit A.meaning tx.now result }
 {
     replica_turns::submit(alloc, state, entries, tx)
 }
@@ -56,10 +56,10 @@ pub(crate) fn query<A: Application>(
     entries: &mut ClientEntries,
     key: &[u8],
 ) -> Result<QueryAnswer, ApplyFault>
-    ensures answer { length key.now ≤ 64 → IfOk result (λ answer. Ok answer ≡ query_reply state.old.config.kind
+    ensures answer { length key.now ≤ 64 → IfOk result (λ answer. Ok answer ≡ query_reply A.meaning state.old.config.kind
         (commits_of state.old.config state.old.id state.old.entries) key.now 0) }
-    ensures applied { length key.now ≤ 64 → OnOk result (AppliesEvent state.old (events.Query key.now 0) state.new) }
-    ensures fault { OnErr result ((state.new ≡ state.old) ⊎ AppliesEvent state.old (events.Query key.now 0) state.new) }
+    ensures applied { length key.now ≤ 64 → OnOk result (AppliesEvent A.meaning state.old (events.Query key.now 0) state.new) }
+    ensures fault { OnErr result ((state.new ≡ state.old) ⊎ AppliesEvent A.meaning state.old (events.Query key.now 0) state.new) }
     ensures full { IsErrOf result ApplyFault.HistoryFull → (length key.now ≤ 64) × ((entries.old ≡ 0) ⊎ (max_history_len ≤ length state.old.entries)) }
     ensures same { IsErrOf result ApplyFault.HistoryFull → state.new ≡ state.old }
     ensures long { 64 < length key.now → IfOk result (λ answer. answer
@@ -67,7 +67,7 @@ pub(crate) fn query<A: Application>(
     ensures long_same { 64 < length key.now → state.new ≡ state.old }
     ensures used { length state.new.entries + entries.new ≡ length state.old.entries + entries.old }
     // The result as a session sees it.
-    ensures outcome { AnswersQuery key.now result }
+    ensures outcome { AnswersQuery A.meaning key.now result }
 {
     let Ok(key) = key_of(alloc, key) else {
         return Err(ApplyFault::NoMemory);
@@ -90,7 +90,7 @@ pub(crate) fn block<A: Application>(
 ) -> Result<Option<Batch>, ApplyFault>
     ensures block { IfOk result (λ b. b ≡ block_at (commits_of state.now.config state.now.id state.now.entries) height) }
     // The result as a session sees it.
-    ensures outcome { AnswersBlock height result }
+    ensures outcome { AnswersBlock A.meaning height result }
 {
     // The history is a replay: its length is read for the proof.
     let _ = state.len();

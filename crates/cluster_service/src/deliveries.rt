@@ -62,8 +62,8 @@ pub(crate) fn delivered_after<A: Application>(
 ) -> Option<(Height, u32)>
     ensures found { result ≡ delivered_in (commits_of state.now.config state.now.id state.now.entries) (drop first state.now.entries) tx.now }
     // The results as HTTP sees them.
-    ensures undelivered { IfNone result (IsUndelivered tx.now first state.now) }
-    ensures delivery { IfSome result (λ found. IsDelivery tx.now first found.0 found.1 state.now) }
+    ensures undelivered { IfNone result (IsUndelivered A.meaning tx.now first state.now) }
+    ensures delivery { IfSome result (λ found. IsDelivery A.meaning tx.now first found.0 found.1 state.now) }
 {
     for index in first..state.len() {
         let Some(entry) = state.entry(index) else {

@@ -43,7 +43,7 @@ fn taken_of<A: Application>(
     cluster: &RunningCluster<A>,
     id: ReplicaId,
 ) -> Result<Taken, ProgramFault>
-    ensures taken { IfOk result (λ taken. IsTaken cluster.now.config cluster.now.ring id taken.history taken.height) }
+    ensures taken { IfOk result (λ taken. IsTaken A.meaning cluster.now.config cluster.now.ring id taken.history taken.height) }
     ensures entries { IfOk result (λ taken. taken.history.entries ≡ state.now.entries) }
     ensures fault { IfErr result IsRunFault }
 {
@@ -62,7 +62,7 @@ fn take<A: Application, R: Wait>(
     id: u8,
 ) -> Result<Taken, ProgramFault>
     requires { id < cluster.now.replicas }
-    ensures taken { IfOk result (λ taken. IsTaken cluster.now.config cluster.now.ring id taken.history taken.height) }
+    ensures taken { IfOk result (λ taken. IsTaken A.meaning cluster.now.config cluster.now.ring id taken.history taken.height) }
     ensures fault { IfErr result IsRunFault }
 {
     let id = ReplicaId::new(id);
@@ -70,8 +70,8 @@ fn take<A: Application, R: Wait>(
     taken_of(&*state, cluster, id)
 }
 
-/// The histories of the replicas, by number, each as of some moment of this call. The ring is that of the cluster. The errors are
-/// NoMemory, and Stranger if a state has another number, configuration or key ring.
+/// The histories of the replicas, by number. The ring is that of the cluster. Each is taken under its replica's lock, as of some moment of
+/// this call: that is tested. The errors are NoMemory, and Stranger if a state has another number, configuration or key ring.
 pub(crate) fn take_all<A: Application, R: Wait>(
     rt: &R,
     alloc: Global,
@@ -81,7 +81,7 @@ pub(crate) fn take_all<A: Application, R: Wait>(
     requires ring { ring ≡ cluster.now.ring }
     requires replicas { cluster.now.config.replicas ≡ cluster.now.replicas }
     ensures each { IfOk result (λ all. vec_len all.heights ≡ cluster.now.config.replicas) }
-    ensures taken { IfOk result (λ all. AreTaken cluster.now.config all.ring 0 all.histories.items all.heights.items) }
+    ensures taken { IfOk result (λ all. AreTaken A.meaning cluster.now.config all.ring 0 all.histories.items all.heights.items) }
     ensures ring { IfOk result (λ all. all.ring ≡ ring) }
     ensures fault { IfErr result IsRunFault }
 {

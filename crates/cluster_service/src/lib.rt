@@ -3,12 +3,12 @@
 //! [`run_cluster`] and [`serve_cluster`] run under `abft cluster` and `abft serve`. They make the replicas, run a worker for each in a
 //! thread, by the machine's clock, and report the state of the cluster to its operator (crate `cluster_reports`). [`LiveTargets`] are the
 //! replicas of a cluster for one session: a request is at most one event under the replica's lock, and heights are those of the commit
-//! board. Each connection is served in a thread of its own, so a client that disappears or sends no request harms no other session. All
-//! clients together use no more of a replica's history than the settings say.
+//! board. Each connection is served in a thread of its own, so a client that disappears or sends no request harms no other session. The
+//! clients share a count of the entries of each replica's history that they may use.
 //!
 //! The caller chooses the type of the replicas' application (`Opening` of crate `app_kinds`), which answers as the configuration's kind does.
 //!
-//! What ran is what the settings say: [`EndedCluster`] and [`EndedServer`] keep which cluster, workers, clock and services threads were
+//! What is handed to threads is what the settings say: [`EndedCluster`] and [`EndedServer`] keep which cluster, workers, clock and services threads were
 //! given, and their contracts compare that with the settings.
 //!
 //! `docs/PROMISES.md` lists what is only tested: among others that the workers run concurrently, that a submit, a query or a block is

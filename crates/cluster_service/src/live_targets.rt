@@ -90,7 +90,7 @@ impl<A: Application, R: Wait> LiveTargets<'_, A, R> {
         tx: &[u8],
     ) -> Result<Result<u32, SubmitRefusal>, ApplyFault>
         requires { replica < self.now.cluster.now.replicas }
-        ensures { AnswersSubmit tx.now result }
+        ensures { AnswersSubmit A.meaning tx.now result }
     {
         let mut entries = self.budgets[usize::from(replica.number())].lock(self.rt);
         let mut state = self.cluster.replica(replica).lock(self.rt);
@@ -103,7 +103,7 @@ impl<A: Application, R: Wait> Targets for LiveTargets<'_, A, R> {
 
     ghost replicas = { λ t. t.cluster.now.replicas };
 
-    ghost asks = { λ old exchange new. IsExchange old.seat.seen exchange new.seat.seen };
+    ghost asks = { λ old exchange new. IsExchange A.meaning old.seat.seen exchange new.seat.seen };
 
     fn count(&self) -> usize {
         self.cluster.len()
@@ -137,7 +137,7 @@ impl<A: Application, R: Clock + Wait> HttpTargets for LiveTargets<'_, A, R> {
     ghost use Rattle.std.specs.Prelude.{option_map};
     ghost use Rattle.cluster_service.specs.Inquiries.{IsInquiry};
 
-    ghost inquires = { λ old inquiry new. IsInquiry old.cluster.now (option_map (λ s. s.value) new.seen) inquiry };
+    ghost inquires = { λ old inquiry new. IsInquiry A.meaning old.cluster.now (option_map (λ s. s.value) new.seen) inquiry };
 
     fn metrics(&mut self, replica: ReplicaId) -> Option<ReplicaMetrics> {
         let cluster = self.cluster;

@@ -32,8 +32,8 @@ fn submit<A: Application>(
     state: &mut State<A>,
     tx: &Tx,
 ) -> Result<(), ProgramFault>
-    requires fresh { state.old ≡ begun cluster.now [] state.old.id }
-    ensures begun { OnOk result (state.new ≡ begun cluster.now (submitted cluster.now tx.now state.old.id) state.old.id) }
+    requires fresh { state.old ≡ begun A.meaning cluster.now [] state.old.id }
+    ensures begun { OnOk result (state.new ≡ begun A.meaning cluster.now (submitted A.meaning cluster.now tx.now state.old.id) state.old.id) }
     ensures fault { IfErr result IsMemoryOrRandom }
 {
     let tx = Bytes::copy_from_slice(alloc, tx.as_bytes())?;
@@ -57,7 +57,7 @@ fn empty_state<A: Opening, R: RandomSource>(
     requires below { id < cluster.now.config.replicas }
     requires signer { signer ≡ unused (secret_of cluster.now id) }
     requires ring { ring.now ≡ ring_of cluster.now }
-    ensures begun { IfOk result (λ state. state ≡ begun cluster.now [] id) }
+    ensures begun { IfOk result (λ state. state ≡ begun A.meaning cluster.now [] id) }
     ensures fault { IfErr result IsMemoryOrRandom }
 {
     let randoms = randoms(source)?;
@@ -79,7 +79,7 @@ fn new_state<A: Opening, R: RandomSource>(
     requires below { id < cluster.now.config.replicas }
     requires signer { signer ≡ unused (secret_of cluster.now id) }
     requires ring { ring.now ≡ ring_of cluster.now }
-    ensures begun { IfOk result (λ state. state ≡ begun cluster.now (submitted cluster.now tx.now id) id) }
+    ensures begun { IfOk result (λ state. state ≡ begun A.meaning cluster.now (submitted A.meaning cluster.now tx.now id) id) }
     ensures fault { IfErr result IsMemoryOrRandom }
 {
     let mut state = empty_state::<A, R>(source, alloc, cluster, id, signer, ring)?;
@@ -102,7 +102,7 @@ pub fn new_replicas<A: Opening, R: RandomSource + Threads + Sync>(
     tx: &Tx,
 ) -> Result<NewReplicas<A>, ProgramFault>
     ensures count { IfOk result (λ all. vec_len all.states ≡ cluster.now.config.replicas) }
-    ensures replicas { IfOk result (λ all. all.states.items ≡ all_begun cluster.now tx.now) }
+    ensures replicas { IfOk result (λ all. all.states.items ≡ all_begun A.meaning cluster.now tx.now) }
     ensures ring { IfOk result (λ all. all.ring ≡ ring_of cluster.now) }
     ensures fault { IfErr result IsMemoryOrRandom }
 {

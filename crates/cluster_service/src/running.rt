@@ -107,9 +107,10 @@ where
     A: Opening + Send,
     R: Clock + RandomSource + Threads + Wait + Sync,
     ensures each { IfOk result (λ end. vec_len end.histories.heights ≡ settings.now.cluster.config.replicas) }
-    ensures taken { IfOk result (λ end. AreTaken settings.now.cluster.config end.histories.ring 0 end.histories.histories.items end.histories.heights.items) }
+    ensures taken { IfOk result (λ end. AreTaken A.meaning settings.now.cluster.config end.histories.ring 0 end.histories.histories.items
+        end.histories.heights.items) }
     ensures ring { IfOk result (λ end. end.histories.ring ≡ ring_of settings.now.cluster) }
-    ensures run { IfOk result (λ end. IsRunOf settings.now end.run) }
+    ensures run { IfOk result (λ end. IsRunOf A.meaning settings.now end.run) }
     ensures fault { IfErr result IsRunFault }
 {
     let config = &settings.cluster.config;
@@ -142,10 +143,11 @@ where
     A: Opening + Send,
     R: Clock + RandomSource + Threads + Wait + Sync,
     ensures each { IfOk result (λ end. vec_len end.histories.heights ≡ settings.now.cluster.config.replicas) }
-    ensures taken { IfOk result (λ end. AreTaken settings.now.cluster.config end.histories.ring 0 end.histories.histories.items end.histories.heights.items) }
+    ensures taken { IfOk result (λ end. AreTaken A.meaning settings.now.cluster.config end.histories.ring 0 end.histories.histories.items
+        end.histories.heights.items) }
     ensures ring { IfOk result (λ end. end.histories.ring ≡ ring_of settings.now.cluster) }
-    // What ran is what the settings say.
-    ensures run { IfOk result (λ end. IsRunOf settings.now end.run) }
+    // What was handed to threads to run is what the settings say.
+    ensures run { IfOk result (λ end. IsRunOf A.meaning settings.now end.run) }
     ensures fault { IfErr result IsRunFault }
 {
     let gate = new_gate(rt, settings, status);

@@ -206,9 +206,10 @@ where
         + Sync
         + Net<Listener = TcpListener, Stream = TcpStream>,
     ensures each { IfOk result (λ end. vec_len end.histories.heights ≡ settings.now.cluster.cluster.config.replicas) }
-    ensures taken { IfOk result (λ end. AreTaken settings.now.cluster.cluster.config end.histories.ring 0 end.histories.histories.items end.histories.heights.items) }
+    ensures taken { IfOk result (λ end. AreTaken A.meaning settings.now.cluster.cluster.config end.histories.ring 0
+        end.histories.histories.items end.histories.heights.items) }
     ensures ring { IfOk result (λ end. end.histories.ring ≡ ring_of settings.now.cluster.cluster) }
-    ensures run { IfOk result (λ end. IsRunOf settings.now.cluster end.run) }
+    ensures run { IfOk result (λ end. IsRunOf A.meaning settings.now.cluster end.run) }
     ensures services { IfOk result (λ end. end.services
         ≡ services_at settings.now end.run.cluster listeners.sessions.port (option_map (λ h. h.port) listeners.http)) }
     ensures fault { IfErr result IsRunFault }
@@ -258,11 +259,12 @@ where
         + Threads
         + Wait,
     ensures each { IfOk result (λ end. vec_len end.histories.heights ≡ settings.now.cluster.cluster.config.replicas) }
-    ensures taken { IfOk result (λ end. AreTaken settings.now.cluster.cluster.config end.histories.ring 0 end.histories.histories.items end.histories.heights.items) }
+    ensures taken { IfOk result (λ end. AreTaken A.meaning settings.now.cluster.cluster.config end.histories.ring 0
+        end.histories.histories.items end.histories.heights.items) }
     ensures ring { IfOk result (λ end. end.histories.ring ≡ ring_of settings.now.cluster.cluster) }
-    // What ran is what the settings say.
-    ensures run { IfOk result (λ end. IsRunOf settings.now.cluster end.run) }
-    // Clients of the cluster that ran were served as the settings say, at the ports of the listeners.
+    // What was handed to threads to run is what the settings say.
+    ensures run { IfOk result (λ end. IsRunOf A.meaning settings.now.cluster end.run) }
+    // What was handed to threads to serve clients of that cluster, at the ports of the listeners, is what the settings say.
     ensures services { IfOk result (λ end. end.services
         ≡ services_at settings.now end.run.cluster listeners.sessions.port (option_map (λ h. h.port) listeners.http)) }
     ensures fault { IfErr result IsRunFault }

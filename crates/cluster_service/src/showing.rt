@@ -28,13 +28,13 @@ pub(crate) fn metrics_of<A: Application>(
     ensures rounds { result.rounds ≡ clock_at state.now.entries }
     ensures height { result.height ≡ length (commits_of state.now.config state.now.id state.now.entries) }
     ensures signatures { state.now.used + result.signatures_left ≡ leaves_of state.now.secret }
-    ensures pool { result.pool_transactions ≡ length (pool_of state.now.config state.now.id state.now.entries) }
+    ensures pool { result.pool_transactions ≡ length (pool_of A.meaning state.now.config state.now.id state.now.entries) }
     ensures entries { result.history_entries ≡ length state.now.entries }
     ensures accepted { result.frames.accepted ≡ accepted_in state.now.entries }
     ensures ignored { (cause : Ignored) → ignored_for result.frames cause ≡ ignored_in cause state.now.entries }
     ensures lost { result.frames_lost ≡ lost }
     // The result as HTTP sees it.
-    ensures shown { ShowsState result state.now }
+    ensures shown { ShowsState A.meaning result state.now }
 {
     // Used leaves are accounted for, and the key is its own: both are read for the proof.
     let _ = (state.is_mute(), state.id());
@@ -55,7 +55,7 @@ pub(crate) fn progress_of<A: Application>(state: &State<A>) -> Progress
     ensures rounds { result.rounds ≡ clock_at state.now.entries }
     ensures height { result.height ≡ length (commits_of state.now.config state.now.id state.now.entries) }
     // The result as HTTP sees it.
-    ensures shown { IsProgress result state.now }
+    ensures shown { IsProgress A.meaning result state.now }
 {
     // The history is a replay: its length is read for the proof.
     let _ = state.len();
@@ -78,10 +78,10 @@ fn bytes_in(pool: &Pool) -> u64
 
 /// How many transactions wait in a replica's pool. It looks at each of them, which are at most 1024.
 pub(crate) fn pool_size<A: Application>(state: &State<A>) -> PoolSize
-    ensures transactions { result.transactions ≡ length (pool_of state.now.config state.now.id state.now.entries) }
-    ensures bytes { result.bytes ≡ min (sum_by length (pool_of state.now.config state.now.id state.now.entries)) (2 ^ 64 - 1) }
+    ensures transactions { result.transactions ≡ length (pool_of A.meaning state.now.config state.now.id state.now.entries) }
+    ensures bytes { result.bytes ≡ min (sum_by length (pool_of A.meaning state.now.config state.now.id state.now.entries)) (2 ^ 64 - 1) }
     // The result as HTTP sees it.
-    ensures shown { IsPooled result state.now }
+    ensures shown { IsPooled A.meaning result state.now }
 {
     // The history is a replay: its length is read for the proof.
     let _ = state.len();
@@ -95,9 +95,9 @@ pub(crate) fn pool_size<A: Application>(state: &State<A>) -> PoolSize
 pub(crate) fn app_info<A: Application>(state: &State<A>) -> AppInfo
     ensures kind { result.kind ≡ state.now.config.kind }
     ensures reply { record { height = result.height; hash = result.hash }
-        ≡ info_reply state.now.config.kind (commits_of state.now.config state.now.id state.now.entries) }
+        ≡ info_reply A.meaning state.now.config.kind (commits_of state.now.config state.now.id state.now.entries) }
     // The result as HTTP sees it.
-    ensures shown { IsInfo result state.now }
+    ensures shown { IsInfo A.meaning result state.now }
 {
     // The history is a replay: its length is read for the proof.
     let _ = state.len();

@@ -65,9 +65,9 @@ fn report<A: Opening, S: RandomSource, W: Write, H: Write>(
     file: &mut Option<HistoriesFile<H>>,
 ) -> Result<u8, ProgramFault>
     requires each { length left.now.heights.items ≡ settings.now.cluster.config.replicas }
-    requires taken { AreTaken settings.now.cluster.config left.now.ring 0 left.now.histories.items left.now.heights.items }
+    requires taken { AreTaken A.meaning settings.now.cluster.config left.now.ring 0 left.now.histories.items left.now.heights.items }
     requires ring { left.now.ring ≡ ring_of settings.now.cluster }
-    ensures reports { WritesSuch result (Reports settings.now) (λ _. ReportsEnd settings.now)
+    ensures reports { WritesSuch result (Reports A.meaning settings.now) (λ _. ReportsEnd A.meaning settings.now)
         (W.contents writer.old) (W.contents writer.new) (file_bytes file.old) (file_bytes file.new) }
     ensures fault { IfErr result (IsReportFault file.old) }
 {
@@ -97,10 +97,10 @@ where
     A: Opening + Send,
     R: Clock + Copy + RandomSource + Send + Sync + Threads + Wait + 'static,
     I: Read + Drop + Send + 'static,
-    ensures reports { WritesSuch result (λ outcome. Reports settings.now outcome.status) (ReportsSome settings.now)
+    ensures reports { WritesSuch result (λ outcome. Reports A.meaning settings.now outcome.status) (ReportsSome A.meaning settings.now)
         (W.contents writer.old) (W.contents writer.new) (file_bytes file.old) (file_bytes file.new) }
-    // What ran is what the settings say.
-    ensures run { IfOk result (λ outcome. IsRunOf settings.now outcome.run) }
+    // What was handed to threads to run is what the settings say.
+    ensures run { IfOk result (λ outcome. IsRunOf A.meaning settings.now outcome.run) }
     // A cluster that isn't run to its end writes nothing. After that it ends by its audit, whatever that finds, unless memory,
     // random bytes, standard output or the file is refused.
     ensures fault { IfErr result (EndsCluster file.old file.new (W.contents writer.old) (W.contents writer.new)) }
@@ -143,10 +143,11 @@ where
         + Wait
         + 'static,
     I: Read + Drop + Send + 'static,
-    ensures reports { WritesSuch result (λ outcome. Reports settings.now.cluster outcome.status) (ReportsSome settings.now.cluster)
+    ensures reports { WritesSuch result (λ outcome. Reports A.meaning settings.now.cluster outcome.status)
+        (ReportsSome A.meaning settings.now.cluster)
         (W.contents writer.old) (W.contents writer.new) (file_bytes file.old) (file_bytes file.new) }
-    // What ran is what the settings say. Clients of the cluster that ran were served as the settings say, at the ports of the listeners.
-    ensures run { IfOk result (λ outcome. IsRunOf settings.now.cluster outcome.run) }
+    // What was handed to threads to run, and to serve clients of that cluster at the ports of the listeners, is what the settings say.
+    ensures run { IfOk result (λ outcome. IsRunOf A.meaning settings.now.cluster outcome.run) }
     ensures services { IfOk result (λ outcome. outcome.services
         ≡ services_at settings.now outcome.run.cluster listeners.sessions.port (option_map (λ h. h.port) listeners.http)) }
     // A server that isn't run to its end writes nothing but the ports that were written before.

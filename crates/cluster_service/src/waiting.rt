@@ -65,7 +65,7 @@ fn look<A: Application, R: Wait>(
     next: usize,
 ) -> LookOutcome
     requires { awaited.now.replica < cluster.now.replicas }
-    ensures { Finds cluster.now awaited.now.replica (option_map (λ s. s.value) seen.new) awaited.now.tx.now next result }
+    ensures { Finds A.meaning cluster.now awaited.now.replica (option_map (λ s. s.value) seen.new) awaited.now.tx.now next result }
 {
     let state = cluster.replica(awaited.replica).lock(rt);
     if !see(cluster, awaited.replica, &*state, seen) {
@@ -87,7 +87,8 @@ fn last_look<A: Application, R: Wait>(
     awaited: &Awaited<'_>,
 ) -> Option<Delivery>
     requires { awaited.now.replica < cluster.now.replicas }
-    ensures { AnswersWait cluster.now awaited.now.replica (option_map (λ s. s.value) seen.new) awaited.now.tx.now awaited.now.index result }
+    ensures { AnswersWait A.meaning cluster.now awaited.now.replica
+        (option_map (λ s. s.value) seen.new) awaited.now.tx.now awaited.now.index result }
 {
     match look(rt, cluster, seen, awaited, awaited.index as usize) {
         LookOutcome::Block { height, code } => Some(Delivery::Committed { height, code }),
@@ -110,7 +111,8 @@ pub(crate) fn wait_for<A: Application, R: Clock + Wait>(
     requires board { seat.old.board ≡ cluster.now.board }
     requires replica { awaited.now.replica < cluster.now.replicas }
     ensures board { seat.new.board ≡ seat.old.board }
-    ensures delivery { AnswersWait cluster.now awaited.now.replica (option_map (λ s. s.value) seen.new) awaited.now.tx.now awaited.now.index result }
+    ensures delivery { AnswersWait A.meaning cluster.now awaited.now.replica
+        (option_map (λ s. s.value) seen.new) awaited.now.tx.now awaited.now.index result }
 {
     let start = Instant::now(rt).ok();
     let mut next = awaited.index as usize;

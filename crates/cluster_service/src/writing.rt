@@ -74,7 +74,7 @@ pub(crate) fn write_lines<A: Opening, S: RandomSource, W: Write>(
     left: &FinalHistories,
     writer: &mut W,
 ) -> Result<u8, ProgramFault>
-    ensures written { WritesFinding config.now left.now.ring left.now.histories.items left.now.heights.items
+    ensures written { WritesFinding A.meaning config.now left.now.ring left.now.histories.items left.now.heights.items
         result (W.contents writer.old) (W.contents writer.new) }
     ensures fault { IfErr result IsLineFault }
 {

@@ -91,11 +91,12 @@ impl TurnTaker {
         events: Vec<Event>,
     ) -> Result<usize, ApplyFault>
         ensures index { IfOk result (λ index. index ≡ length state.old.entries) }
-        ensures applied { state.old.id ≡ self.old.seat.replica → OnOk result (AppliesEach state.old events.items state.new) }
-        ensures refused { IfErr result (λ why. (state.old.id ≡ self.old.seat.replica) × AppliesSome state.old events.items why state.new) }
+        ensures applied { state.old.id ≡ self.old.seat.replica → OnOk result (AppliesEach A.meaning state.old events.items state.new) }
+        ensures refused { IfErr result (λ why. (state.old.id ≡ self.old.seat.replica)
+            × AppliesSome A.meaning state.old events.items why state.new) }
         ensures other { (state.old.id ≡ self.old.seat.replica → ⊥) → state.new ≡ state.old }
         ensures grows { length state.old.entries ≤ length state.new.entries }
-        ensures sound { IsSound state.new }
+        ensures sound { IsSound A.meaning state.new }
         ensures reader { self.new.reader ≡ self.old.reader }
         // The replica's committed height is published.
         ensures seat { state.old.id ≡ self.old.seat.replica
@@ -118,10 +119,11 @@ impl TurnTaker {
         ensures taken { length state.old.entries + result.taken ≡ length state.new.entries }
         ensures offered { MatchOption result.fault (result.offered ≡ length events.items) (λ _. result.offered ≡ result.taken + 1) }
         // The events are applied in order: all, or those before the one that was refused.
-        ensures events { state.old.id ≡ self.old.seat.replica → MatchOption result.fault (AppliesEach state.old events.items state.new)
-            (λ why. AppliesSome state.old events.items why state.new) }
+        ensures events { state.old.id ≡ self.old.seat.replica
+            → MatchOption result.fault (AppliesEach A.meaning state.old events.items state.new)
+            (λ why. AppliesSome A.meaning state.old events.items why state.new) }
         ensures other { (state.old.id ≡ self.old.seat.replica → ⊥) → (state.new ≡ state.old) × (result.fault ≡ None) }
-        ensures sound { IsSound state.new }
+        ensures sound { IsSound A.meaning state.new }
         ensures reader { self.new.reader ≡ self.old.reader }
         // The replica's committed height is published.
         ensures seat { state.old.id ≡ self.old.seat.replica

@@ -1,4 +1,5 @@
 -- From the matches of the words to the subcommand that they name.
+use Rattle.ledger_model.specs.Meanings.{Meanings}
 use Rattle.std.proofs.Common.{◌≡◌, ◌∙◌, true, false, List, refl, sym, ap, subst, codes, inl, inr}
 use Rattle.std.specs.Prelude.{◌⊎◌, Option, Some, None, Result, Ok, Err, IfOk, IfErr, OnErr, IsOkAnd, MatchResult, option_map}
 use Rattle.std.specs.Prelude.{option_and_then, find}
@@ -74,58 +75,62 @@ IsOneOfSeven name =
     ⊎ ((name ≡ Some (codes "cluster")) ⊎ ((name ≡ Some (codes "serve")) ⊎ ((name ≡ Some (codes "audit")) ⊎ (name ≡ Some (codes "draw")))))))
 
 -- whatever is set is set by a subcommand of one of these names
-named : (o : Option (Text × List Row)) (s : Settings) → Sets o s → IsOneOfSeven (option_map (λ p. p.0) o)
-named None s sets = absurd sets
-named (Some p) (settings.Sign t) sets = inl (ap (λ n. Some n) sets.0)
-named (Some p) (settings.Deliver t) sets = inr (inl (ap (λ n. Some n) sets.0))
-named (Some p) (settings.Simulate t) sets = inr (inr (inl (ap (λ n. Some n) sets.0)))
-named (Some p) (settings.Cluster t) sets = inr (inr (inr (inl (ap (λ n. Some n) sets.0))))
-named (Some p) (settings.Serve t) sets = inr (inr (inr (inr (inl (ap (λ n. Some n) sets.0)))))
-named (Some p) (settings.Audit t) sets = inr (inr (inr (inr (inr (inl (ap (λ n. Some n) sets.0))))))
-named (Some p) (settings.Draw t) sets = inr (inr (inr (inr (inr (inr (ap (λ n. Some n) sets.0))))))
+named : (meaning : Meanings) (o : Option (Text × List Row)) (s : Settings) → Sets meaning o s → IsOneOfSeven (option_map (λ p. p.0) o)
+named meaning None s sets = absurd sets
+named meaning (Some p) (settings.Sign t) sets = inl (ap (λ n. Some n) sets.0)
+named meaning (Some p) (settings.Deliver t) sets = inr (inl (ap (λ n. Some n) sets.0))
+named meaning (Some p) (settings.Simulate t) sets = inr (inr (inl (ap (λ n. Some n) sets.0)))
+named meaning (Some p) (settings.Cluster t) sets = inr (inr (inr (inl (ap (λ n. Some n) sets.0))))
+named meaning (Some p) (settings.Serve t) sets = inr (inr (inr (inr (inl (ap (λ n. Some n) sets.0)))))
+named meaning (Some p) (settings.Audit t) sets = inr (inr (inr (inr (inr (inl (ap (λ n. Some n) sets.0))))))
+named meaning (Some p) (settings.Draw t) sets = inr (inr (inr (inr (inr (inr (ap (λ n. Some n) sets.0))))))
 
-pub names_one : (m : ArgMatches) (s : Settings) → Sets (subcommand_rows_of m) s → IsOneOfSeven (subcommand_name_of m)
-names_one m s sets = subst IsOneOfSeven (name_is m) (named (subcommand_rows_of m) s sets)
+pub names_one : (meaning : Meanings) (m : ArgMatches) (s : Settings) → Sets meaning (subcommand_rows_of m) s
+    → IsOneOfSeven (subcommand_name_of m)
+names_one meaning m s sets = subst IsOneOfSeven (name_is m) (named meaning (subcommand_rows_of m) s sets)
 
 -- names that differ are not the same
 differ : {W : Type 0} (x y : Text) → bytes_eq x y ≡ false → x ≡ y → W
 differ x y are same = absurd (not_from_Decides (bytes_eq x y) (bytes_eq-Decides x y) are same)
 
 -- what is set by a subcommand of each name
-pub sets_sign : {W : Type 0} (rows : List Row) (s : Settings) → ((t : SignSettings) → SetsSign rows t → W)
-    → Sets (Some (codes "sign", rows)) s → W
-sets_sign rows (settings.Sign t) then sets = then t sets.1
-sets_sign rows s then sets = differ _ _ refl sets.0
+pub sets_sign : (meaning : Meanings) → {W : Type 0} (rows : List Row) (s : Settings) → ((t : SignSettings) → SetsSign rows t → W)
+    → Sets meaning (Some (codes "sign", rows)) s → W
+sets_sign meaning rows (settings.Sign t) then sets = then t sets.1
+sets_sign meaning rows s then sets = differ _ _ refl sets.0
 
-pub sets_deliver : {W : Type 0} (rows : List Row) (s : Settings) → ((t : DeliverSettings) → SetsDeliver rows t → W)
-    → Sets (Some (codes "deliver", rows)) s → W
-sets_deliver rows (settings.Deliver t) then sets = then t sets.1
-sets_deliver rows s then sets = differ _ _ refl sets.0
+pub sets_deliver : (meaning : Meanings) → {W : Type 0} (rows : List Row) (s : Settings)
+    → ((t : DeliverSettings) → SetsDeliver meaning rows t → W)
+    → Sets meaning (Some (codes "deliver", rows)) s → W
+sets_deliver meaning rows (settings.Deliver t) then sets = then t sets.1
+sets_deliver meaning rows s then sets = differ _ _ refl sets.0
 
-pub sets_simulate : {W : Type 0} (rows : List Row) (s : Settings) → ((t : SimulateSettings) → SetsSimulate rows t → W)
-    → Sets (Some (codes "simulate", rows)) s → W
-sets_simulate rows (settings.Simulate t) then sets = then t sets.1
-sets_simulate rows s then sets = differ _ _ refl sets.0
+pub sets_simulate : (meaning : Meanings) → {W : Type 0} (rows : List Row) (s : Settings)
+    → ((t : SimulateSettings) → SetsSimulate rows t → W)
+    → Sets meaning (Some (codes "simulate", rows)) s → W
+sets_simulate meaning rows (settings.Simulate t) then sets = then t sets.1
+sets_simulate meaning rows s then sets = differ _ _ refl sets.0
 
-pub sets_cluster : {W : Type 0} (rows : List Row) (s : Settings) → ((t : ClusterSettings) → SetsRunning rows t → W)
-    → Sets (Some (codes "cluster", rows)) s → W
-sets_cluster rows (settings.Cluster t) then sets = then t sets.1
-sets_cluster rows s then sets = differ _ _ refl sets.0
+pub sets_cluster : (meaning : Meanings) → {W : Type 0} (rows : List Row) (s : Settings)
+    → ((t : ClusterSettings) → SetsRunning meaning rows t → W)
+    → Sets meaning (Some (codes "cluster", rows)) s → W
+sets_cluster meaning rows (settings.Cluster t) then sets = then t sets.1
+sets_cluster meaning rows s then sets = differ _ _ refl sets.0
 
-pub sets_serve : {W : Type 0} (rows : List Row) (s : Settings) → ((t : ServeSettings) → SetsServe rows t → W)
-    → Sets (Some (codes "serve", rows)) s → W
-sets_serve rows (settings.Serve t) then sets = then t sets.1
-sets_serve rows s then sets = differ _ _ refl sets.0
+pub sets_serve : (meaning : Meanings) → {W : Type 0} (rows : List Row) (s : Settings) → ((t : ServeSettings) → SetsServe meaning rows t → W)
+    → Sets meaning (Some (codes "serve", rows)) s → W
+sets_serve meaning rows (settings.Serve t) then sets = then t sets.1
+sets_serve meaning rows s then sets = differ _ _ refl sets.0
 
-pub sets_audit : {W : Type 0} (rows : List Row) (s : Settings) → ((t : AuditSettings) → SetsAudit rows t → W)
-    → Sets (Some (codes "audit", rows)) s → W
-sets_audit rows (settings.Audit t) then sets = then t sets.1
-sets_audit rows s then sets = differ _ _ refl sets.0
+pub sets_audit : (meaning : Meanings) → {W : Type 0} (rows : List Row) (s : Settings) → ((t : AuditSettings) → SetsAudit rows t → W)
+    → Sets meaning (Some (codes "audit", rows)) s → W
+sets_audit meaning rows (settings.Audit t) then sets = then t sets.1
+sets_audit meaning rows s then sets = differ _ _ refl sets.0
 
-pub sets_draw : {W : Type 0} (rows : List Row) (s : Settings) → ((t : DrawSettings) → SetsDraw rows t → W)
-    → Sets (Some (codes "draw", rows)) s → W
-sets_draw rows (settings.Draw t) then sets = then t sets.1
-sets_draw rows s then sets = differ _ _ refl sets.0
+pub sets_draw : (meaning : Meanings) → {W : Type 0} (rows : List Row) (s : Settings) → ((t : DrawSettings) → SetsDraw rows t → W)
+    → Sets meaning (Some (codes "draw", rows)) s → W
+sets_draw meaning rows (settings.Draw t) then sets = then t sets.1
+sets_draw meaning rows s then sets = differ _ _ refl sets.0
 
 -- where an option's value came from, among the entries and among the rows
 pub source_is : (f : Found) (id : Text)
@@ -140,26 +145,29 @@ source_is f id = go (find (λ (e : Entry). bytes_eq e.0.now id) f.entries.items)
     go (Some e) = refl
 
 -- settings that are set are set as those of the subcommand
-pub set_alike : {T : Type 0} (Q : T → Settings → Type 0) (S : T → Type 0) (o : Option (Text × List Row)) (p : Text × List Row)
+pub set_alike : (meaning : Meanings) → {T : Type 0} (Q : T → Settings → Type 0) (S : T → Type 0) (o : Option (Text × List Row))
+    (p : Text × List Row)
     (r : Result T UsageFault) (told : Result Settings UsageFault) → o ≡ Some p
-    → ((t : T) (s : Settings) → Q t s → S t → Sets (Some p) s)
+    → ((t : T) (s : Settings) → Q t s → S t → Sets meaning (Some p) s)
     → IfOk r S → MatchResult r (λ t. IsOkAnd told (Q t)) (λ e. told ≡ Err e)
-    → IfOk told (λ s. Sets o s)
-set_alike Q S o p (Ok t) (Ok s) found join set cases = subst (λ q. Sets q s) (sym found) (join t s cases set)
-set_alike Q S o p (Ok t) (Err e) found join set cases = absurd cases
-set_alike Q S o p (Err e) told found join set cases = subst (λ (x : Result Settings UsageFault). IfOk x (λ s. Sets o s)) (sym cases) tt
+    → IfOk told (λ s. Sets meaning o s)
+set_alike meaning Q S o p (Ok t) (Ok s) found join set cases = subst (λ q. Sets meaning q s) (sym found) (join t s cases set)
+set_alike meaning Q S o p (Ok t) (Err e) found join set cases = absurd cases
+set_alike meaning Q S o p (Err e) told found join set cases = subst (λ (x : Result Settings UsageFault). IfOk x (λ s. Sets meaning o s))
+    (sym cases) tt
 
 -- settings that are refused are refused as those of the subcommand
-pub refused_alike : {T : Type 0} (Q : T → Settings → Type 0) (S : T → Type 0) (o : Option (Text × List Row)) (p : Text × List Row)
+pub refused_alike : (meaning : Meanings) → {T : Type 0} (Q : T → Settings → Type 0) (S : T → Type 0) (o : Option (Text × List Row))
+    (p : Text × List Row)
     (r : Result T UsageFault) (told : Result Settings UsageFault) → o ≡ Some p
-    → ((e : UsageFault) (s : Settings) → ((t : T) → S t → WantsMemory e) → Sets (Some p) s → WantsMemory e)
+    → ((e : UsageFault) (s : Settings) → ((t : T) → S t → WantsMemory e) → Sets meaning (Some p) s → WantsMemory e)
     → IfErr r (λ e. (t : T) → S t → WantsMemory e) → MatchResult r (λ t. IsOkAnd told (Q t)) (λ e. told ≡ Err e)
-    → IfErr told (λ e. (s : Settings) → Sets o s → WantsMemory e)
-refused_alike Q S o p (Ok t) (Ok s) found split refused cases = tt
-refused_alike Q S o p (Ok t) (Err e) found split refused cases = absurd cases
-refused_alike Q S o p (Err e) told found split refused cases =
-    subst (λ (x : Result Settings UsageFault). IfErr x (λ f. (s : Settings) → Sets o s → WantsMemory f)) (sym cases)
-    (λ s sets. split e s refused (subst (λ q. Sets q s) found sets))
+    → IfErr told (λ e. (s : Settings) → Sets meaning o s → WantsMemory e)
+refused_alike meaning Q S o p (Ok t) (Ok s) found split refused cases = tt
+refused_alike meaning Q S o p (Ok t) (Err e) found split refused cases = absurd cases
+refused_alike meaning Q S o p (Err e) told found split refused cases =
+    subst (λ (x : Result Settings UsageFault). IfErr x (λ f. (s : Settings) → Sets meaning o s → WantsMemory f)) (sym cases)
+    (λ s sets. split e s refused (subst (λ q. Sets meaning q s) found sets))
 
 -- what nothing sets is refused for whatever reason
 pub refused_anyway : {T E : Type 0} (S : T → Type 0) (P : E → Type 0) (r : Result T E) → OnErr r ((t : T) → S t → ⊥)

@@ -1,4 +1,5 @@
 -- Numbers and transactions in their printed form.
+use Rattle.ledger_model.specs.Meanings.{Meanings}
 use Rattle.std.proofs.Common.{◌≡◌, ◌∙◌, ℕ, ◌-◌, ◌<◌, ◌≤◌, Bool, true, false, cond, List, [], refl, arith, ap, codes, sym, subst}
 use Rattle.std.specs.Prelude.{Result, Ok, Err, Some, None, IfOk, IfErr, OnErr, IsErrOf, is_ok, ◌↔◌, ◌==◌}
 use Rattle.std.specs.Result.{result_ok}
@@ -99,13 +100,14 @@ pub same_kind : (rows : List Row) (a b : ClusterSeed) → SetsCluster rows a →
 same_kind rows a b i j = one_kind a.config.kind b.config.kind (one_number rows (codes "kind") 1 3 1 3 _ _ i.kind j.kind)
 
 -- a check in the opening state answers as the application run on no block
-pub checked_at_opening : (m : Machine) (kind : AppKind) (tx : List ℕ) (code : ℕ) → ChecksTo m tx code → m ≡ run kind []
-    → code ≡ check_reply kind [] tx
+pub checked_at_opening : (meaning : Meanings) (m : Machine) (kind : AppKind) (tx : List ℕ) (code : ℕ) → ChecksTo meaning m tx code
+    → m ≡ run meaning kind []
+    → code ≡ check_reply meaning kind [] tx
 unfolding run check_reply
-checked_at_opening m kind tx code checked is =
+checked_at_opening meaning m kind tx code checked is =
     checked (transactions_of []) (ap (λ (n : Machine). n.committed) is
-    ∙ ap (λ k. state_after k (transactions_of [])) (sym (ap (λ (n : Machine). n.kind) is)))
-    ∙ ap (λ k. check_reply k [] tx) (ap (λ (n : Machine). n.kind) is)
+    ∙ ap (λ k. state_after meaning k (transactions_of [])) (sym (ap (λ (n : Machine). n.kind) is)))
+    ∙ ap (λ k. check_reply meaning k [] tx) (ap (λ (n : Machine). n.kind) is)
 
 -- each number from 1 to 3 names an application
 pub some_kind : (n : ℕ) → 1 ≤ n → n ≤ 3 → None ≡ kind_of_number n → ⊥

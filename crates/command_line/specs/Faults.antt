@@ -1,4 +1,5 @@
 -- The faults of words that give no settings: each names what is wrong with the words.
+use Rattle.ledger_model.specs.Meanings.{Meanings}
 use Rattle.std.specs.Prelude.{◌≡◌, ◌≢◌, ◌⊎◌, ℕ, ◌<◌, ◌+◌, ◌*◌, ⊤, List, [], ◌∷◌, length, codes, slice_get, slice_index, Option, Some, None}
 use Rattle.clap.specs.Words.{HasKind, IsAmong, Kinds, Row, Text, fault_of, first_of, subcommand_of}
 use Rattle.clap.specs.declared.error.ErrorKind.TheVariants as kind
@@ -88,13 +89,13 @@ pub record IsNoTransaction (rows : List Row) (option word : Text) : Type 0 where
 
 -- The word is the option's value, a transaction for which an application of the cluster's kind returns this code in its
 -- opening state.
-pub record IsRejected (rows : List Row) (option : Text) (code : ℕ) (word : Text) : Type 0 where
+pub record IsRejected (meaning : Meanings) (rows : List Row) (option : Text) (code : ℕ) (word : Text) : Type 0 where
   pub has : first_of option rows ≡ Some word
   pub tx : List ℕ
   pub written : IsWritten rows option tx
   pub kind : AppKind
   pub chosen : IsNumberWithin rows (codes "kind") 1 3 (kind_number kind)
-  pub answer : check_reply kind [] tx ≡ code
+  pub answer : check_reply meaning kind [] tx ≡ code
   pub refused : code ≢ 0
 
 -- the word is the value of `--receipt`, but spells no receipt
@@ -110,24 +111,26 @@ abbrev pub IsNoLevel : List Row → Text → Type 0
 IsNoLevel rows word = (first_of (codes "log") rows ≡ Some word) × (parse_filter word ≡ None)
 
 -- the fault names an option of the table and of these rows, the numbers that it takes, and what is wrong with it
-abbrev pub IsRightOf : OptionTable → List Row → UsageFault → Type 0
-IsRightOf table rows (fault.CommandLine error) = ⊥
-IsRightOf table rows (fault.Number option least most word) =
+abbrev pub IsRightOf : Meanings → OptionTable → List Row → UsageFault → Type 0
+IsRightOf meaning table rows (fault.CommandLine error) = ⊥
+IsRightOf meaning table rows (fault.Number option least most word) =
     TakesNumber table rows option.now least most × IsNoNumber rows option.now least most word.now
-IsRightOf table rows (fault.Neither option one other word) =
+IsRightOf meaning table rows (fault.Neither option one other word) =
     TakesEither table option.now one other × IsNeither rows option.now one other word.now
-IsRightOf table rows (fault.Seed word) = HasOption table (codes "seed") × IsNoSeed rows word.now
-IsRightOf table rows (fault.TooFew replicas faults) = AreTooFew rows replicas faults
-IsRightOf table rows (fault.Spelling option why) = TakesTransaction table option.now × IsMisspelled rows option.now why
-IsRightOf table rows (fault.NoTransaction option word) = TakesTransaction table option.now × IsNoTransaction rows option.now word.now
-IsRightOf table rows (fault.Rejected option code word) = TakesTransaction table option.now × IsRejected rows option.now code word.now
-IsRightOf table rows (fault.Receipt word) = HasOption table (codes "receipt") × IsNoReceipt rows word.now
-IsRightOf table rows (fault.NamedInput input word) = ⊥
-IsRightOf table rows (fault.What word) = HasOption table (codes "what") × IsNoStatement rows word.now
-IsRightOf table rows (fault.Level word) = HasOption table (codes "log") × IsNoLevel rows word.now
-IsRightOf table rows (fault.Missing option) = HasOption table option.now × (first_of option.now rows ≡ None)
-IsRightOf table rows fault.NoSubcommand = ⊥
-IsRightOf table rows fault.NoMemory = ⊤
+IsRightOf meaning table rows (fault.Seed word) = HasOption table (codes "seed") × IsNoSeed rows word.now
+IsRightOf meaning table rows (fault.TooFew replicas faults) = AreTooFew rows replicas faults
+IsRightOf meaning table rows (fault.Spelling option why) = TakesTransaction table option.now × IsMisspelled rows option.now why
+IsRightOf meaning table rows (fault.NoTransaction option word) = TakesTransaction table option.now
+    × IsNoTransaction rows option.now word.now
+IsRightOf meaning table rows (fault.Rejected option code word) = TakesTransaction table option.now
+    × IsRejected meaning rows option.now code word.now
+IsRightOf meaning table rows (fault.Receipt word) = HasOption table (codes "receipt") × IsNoReceipt rows word.now
+IsRightOf meaning table rows (fault.NamedInput input word) = ⊥
+IsRightOf meaning table rows (fault.What word) = HasOption table (codes "what") × IsNoStatement rows word.now
+IsRightOf meaning table rows (fault.Level word) = HasOption table (codes "log") × IsNoLevel rows word.now
+IsRightOf meaning table rows (fault.Missing option) = HasOption table option.now × (first_of option.now rows ≡ None)
+IsRightOf meaning table rows fault.NoSubcommand = ⊥
+IsRightOf meaning table rows fault.NoMemory = ⊤
 
 -- no subcommand of the program was found
 abbrev pub IsNoSubcommand : Option (Text × List Row) → Type 0
@@ -148,30 +151,30 @@ rows_in None = []
 rows_in (Some found) = found.1
 
 -- the fault names an option of the subcommand that was found, or says that none was found
-abbrev pub IsRightIn : Option (Text × List Row) → UsageFault → Type 0
-IsRightIn found fault.NoSubcommand = IsNoSubcommand found
-IsRightIn found e = IsRightOf (table_in found) (rows_in found) e
+abbrev pub IsRightIn : Meanings → Option (Text × List Row) → UsageFault → Type 0
+IsRightIn meaning found fault.NoSubcommand = IsNoSubcommand found
+IsRightIn meaning found e = IsRightOf meaning (table_in found) (rows_in found) e
 
 -- the words are a command line of the program, and the fault is about an option of its subcommand
-abbrev pub IsRightOption : List Text → UsageFault → Type 0
-IsRightOption words e = (kinds_of words ≡ []) × IsRightIn (subcommand_of abft_app words) e
+abbrev pub IsRightOption : Meanings → List Text → UsageFault → Type 0
+IsRightOption meaning words e = (kinds_of words ≡ []) × IsRightIn meaning (subcommand_of abft_app words) e
 
 -- the fault is true of the words: clap returns an error of this kind for them, or they are a command line and an option
 -- has this fault
-abbrev pub IsRightFault : List Text → UsageFault → Type 0
-IsRightFault words (fault.CommandLine error) = HasKind (kinds_of words) error
-IsRightFault words (fault.NamedInput input word) = IsAmong kind.UnknownArgument (kinds_of words)
+abbrev pub IsRightFault : Meanings → List Text → UsageFault → Type 0
+IsRightFault meaning words (fault.CommandLine error) = HasKind (kinds_of words) error
+IsRightFault meaning words (fault.NamedInput input word) = IsAmong kind.UnknownArgument (kinds_of words)
     × IsOperand words (reader_of input) word.now
-IsRightFault words (fault.Number option least most word) = IsRightOption words (fault.Number option least most word)
-IsRightFault words (fault.Neither option one other word) = IsRightOption words (fault.Neither option one other word)
-IsRightFault words (fault.Seed word) = IsRightOption words (fault.Seed word)
-IsRightFault words (fault.TooFew replicas faults) = IsRightOption words (fault.TooFew replicas faults)
-IsRightFault words (fault.Spelling option why) = IsRightOption words (fault.Spelling option why)
-IsRightFault words (fault.NoTransaction option word) = IsRightOption words (fault.NoTransaction option word)
-IsRightFault words (fault.Rejected option code word) = IsRightOption words (fault.Rejected option code word)
-IsRightFault words (fault.Receipt word) = IsRightOption words (fault.Receipt word)
-IsRightFault words (fault.What word) = IsRightOption words (fault.What word)
-IsRightFault words (fault.Level word) = IsRightOption words (fault.Level word)
-IsRightFault words (fault.Missing option) = IsRightOption words (fault.Missing option)
-IsRightFault words fault.NoSubcommand = IsRightOption words fault.NoSubcommand
-IsRightFault words fault.NoMemory = ⊤
+IsRightFault meaning words (fault.Number option least most word) = IsRightOption meaning words (fault.Number option least most word)
+IsRightFault meaning words (fault.Neither option one other word) = IsRightOption meaning words (fault.Neither option one other word)
+IsRightFault meaning words (fault.Seed word) = IsRightOption meaning words (fault.Seed word)
+IsRightFault meaning words (fault.TooFew replicas faults) = IsRightOption meaning words (fault.TooFew replicas faults)
+IsRightFault meaning words (fault.Spelling option why) = IsRightOption meaning words (fault.Spelling option why)
+IsRightFault meaning words (fault.NoTransaction option word) = IsRightOption meaning words (fault.NoTransaction option word)
+IsRightFault meaning words (fault.Rejected option code word) = IsRightOption meaning words (fault.Rejected option code word)
+IsRightFault meaning words (fault.Receipt word) = IsRightOption meaning words (fault.Receipt word)
+IsRightFault meaning words (fault.What word) = IsRightOption meaning words (fault.What word)
+IsRightFault meaning words (fault.Level word) = IsRightOption meaning words (fault.Level word)
+IsRightFault meaning words (fault.Missing option) = IsRightOption meaning words (fault.Missing option)
+IsRightFault meaning words fault.NoSubcommand = IsRightOption meaning words fault.NoSubcommand
+IsRightFault meaning words fault.NoMemory = ⊤

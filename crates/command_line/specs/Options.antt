@@ -1,5 +1,6 @@
 -- The settings that the words of a command line give: each option has its value in the matches, which is its default if
 -- the words give none.
+use Rattle.ledger_model.specs.Meanings.{Meanings}
 use Rattle.std.specs.Prelude.{◌≡◌, ℕ, ◌==◌, Bool, true, ◌&&◌, ◌≤◌, ◌+◌, ◌-◌, ◌*◌, IsTrue, List, [], ◌∷◌, ◌++◌, length, codes, Option, Some}
 use Rattle.std.specs.Prelude.{None, Ok, ◌⊎◌, ◌↔◌, find, option_and_then, option_map, if◌then◌else◌}
 use Rattle.std.specs.List.{list_any}
@@ -210,9 +211,9 @@ pub record IsWritten (rows : List Row) (name : Text) (tx : List ℕ) : Type 0 wh
   pub short : length tx ≤ 64
 
 -- the option's value encodes this transaction, which an application of this kind accepts in its opening state
-pub record IsAccepted (rows : List Row) (name : Text) (kind : AppKind) (tx : List ℕ) : Type 0 where
+pub record IsAccepted (meaning : Meanings) (rows : List Row) (name : Text) (kind : AppKind) (tx : List ℕ) : Type 0 where
   pub written : IsWritten rows name tx
-  pub checked : check_reply kind [] tx ≡ 0
+  pub checked : check_reply meaning kind [] tx ≡ 0
 
 -- the words contain the option: its value is not its default
 abbrev pub IsNamed : List Row → Text → Type 0
@@ -265,10 +266,10 @@ pub record SetsSign (rows : List Row) (s : SignSettings) : Type 0 where
   pub value : IsWritten rows (codes "value") s.value
 
 -- the options of `abft deliver` set these settings
-pub record SetsDeliver (rows : List Row) (s : DeliverSettings) : Type 0 where
+pub record SetsDeliver (meaning : Meanings) (rows : List Row) (s : DeliverSettings) : Type 0 where
   pub cluster : SetsCluster rows s.cluster
   pub replica : IsNumberWithin rows (codes "replica") 0 (s.cluster.config.replicas - 1) s.replica
-  pub value : IsAccepted rows (codes "value") s.cluster.config.kind s.value
+  pub value : IsAccepted meaning rows (codes "value") s.cluster.config.kind s.value
   pub height : IsNumberWithin rows (codes "height") 1 4 s.height
   pub rounds : IsNumberWithin rows (codes "rounds") 0 4000000000 s.rounds
 
@@ -279,9 +280,9 @@ pub record SetsSimulate (rows : List Row) (s : SimulateSettings) : Type 0 where
 
 -- The options of `abft cluster` set these settings. The run ends with standard input, if the words contain that option. The histories
 -- are written to the file that the words name, if they name one.
-pub record SetsRunning (rows : List Row) (s : ClusterSettings) : Type 0 where
+pub record SetsRunning (meaning : Meanings) (rows : List Row) (s : ClusterSettings) : Type 0 where
   pub cluster : SetsCluster rows s.cluster
-  pub tx : IsAccepted rows (codes "tx") s.cluster.config.kind s.tx
+  pub tx : IsAccepted meaning rows (codes "tx") s.cluster.config.kind s.tx
   pub rounds : IsNumberWithin rows (codes "rounds") 0 4000000000 s.rounds
   pub base : IsNumberWithin rows (codes "base-ms") 1 60000 s.base_ms
   pub log : SetsLog rows s.log
@@ -289,8 +290,8 @@ pub record SetsRunning (rows : List Row) (s : ClusterSettings) : Type 0 where
   pub histories : option_map string_bytes s.histories ≡ first_of (codes "histories") rows
 
 -- the options of `abft serve` set these settings
-pub record SetsServe (rows : List Row) (s : ServeSettings) : Type 0 where
-  pub cluster : SetsRunning rows s.cluster
+pub record SetsServe (meaning : Meanings) (rows : List Row) (s : ServeSettings) : Type 0 where
+  pub cluster : SetsRunning meaning rows s.cluster
   pub port : IsNumberWithin rows (codes "port") 0 65535 s.port
   pub http : SetsPort rows (codes "http") s.http
   pub sessions : IsNumberWithin rows (codes "sessions") 1 1000 s.sessions
@@ -309,23 +310,23 @@ pub record SetsDraw (rows : List Row) (s : DrawSettings) : Type 0 where
   pub last : IsNumberWithin rows (codes "last") 0 4000000000 s.last
 
 -- the subcommand that the words name sets these settings with its options
-abbrev pub Sets : Option (Text × List Row) → Settings → Type 0
-Sets None s = ⊥
-Sets (Some found) (settings.Sign s) = (found.0 ≡ codes "sign") × SetsSign found.1 s
-Sets (Some found) (settings.Deliver s) = (found.0 ≡ codes "deliver") × SetsDeliver found.1 s
-Sets (Some found) (settings.Simulate s) = (found.0 ≡ codes "simulate") × SetsSimulate found.1 s
-Sets (Some found) (settings.Cluster s) = (found.0 ≡ codes "cluster") × SetsRunning found.1 s
-Sets (Some found) (settings.Serve s) = (found.0 ≡ codes "serve") × SetsServe found.1 s
-Sets (Some found) (settings.Audit s) = (found.0 ≡ codes "audit") × SetsAudit found.1 s
-Sets (Some found) (settings.Draw s) = (found.0 ≡ codes "draw") × SetsDraw found.1 s
+abbrev pub Sets : Meanings → Option (Text × List Row) → Settings → Type 0
+Sets meaning None s = ⊥
+Sets meaning (Some found) (settings.Sign s) = (found.0 ≡ codes "sign") × SetsSign found.1 s
+Sets meaning (Some found) (settings.Deliver s) = (found.0 ≡ codes "deliver") × SetsDeliver meaning found.1 s
+Sets meaning (Some found) (settings.Simulate s) = (found.0 ≡ codes "simulate") × SetsSimulate found.1 s
+Sets meaning (Some found) (settings.Cluster s) = (found.0 ≡ codes "cluster") × SetsRunning meaning found.1 s
+Sets meaning (Some found) (settings.Serve s) = (found.0 ≡ codes "serve") × SetsServe meaning found.1 s
+Sets meaning (Some found) (settings.Audit s) = (found.0 ≡ codes "audit") × SetsAudit found.1 s
+Sets meaning (Some found) (settings.Draw s) = (found.0 ≡ codes "draw") × SetsDraw found.1 s
 
 -- the words give these settings
-abbrev pub IsSet : List Text → Settings → Type 0
-IsSet words s = Sets (subcommand_of abft_app words) s
+abbrev pub IsSet : Meanings → List Text → Settings → Type 0
+IsSet meaning words s = Sets meaning (subcommand_of abft_app words) s
 
 -- the words are no command line of the program, or give no settings
-abbrev pub IsRefused : List Text → Type 0
-IsRefused words = takes abft_app words ≡ true → (s : Settings) → IsSet words s → ⊥
+abbrev pub IsRefused : Meanings → List Text → Type 0
+IsRefused meaning words = takes abft_app words ≡ true → (s : Settings) → IsSet meaning words s → ⊥
 
 -- the fault is that memory ran out, here or in clap
 abbrev pub WantsMemory : UsageFault → Type 0

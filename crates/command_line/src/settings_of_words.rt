@@ -1,6 +1,7 @@
 //! The settings that the words of a command line give.
 ghost use Rattle.std.specs.Prelude.{◌≡◌, [], map, true, IfOk, IfErr, OnErr};
 ghost use Rattle.clap.specs.Words.{found_of, rows_of, subcommand_of, subcommand_rows_of, takes};
+ghost use Rattle.ledger_model.specs.Meanings.{Meanings};
 ghost use Rattle.command_line.specs.Faults.{IsRightFault, IsRightIn, IsRightOf, kinds_of};
 ghost use Rattle.command_line.specs.Grammar.{abft_app};
 ghost use Rattle.command_line.specs.Options.{HasRunning, IsSet, OptionTable, Sets, SetsAudit, SetsDeliver, SetsRunning, SetsServe, SetsSign, SetsSimulate, WantsMemory, SetsDraw, audit_options, deliver_options, draw_options, serve_options, sign_options, simulate_options};
@@ -37,7 +38,7 @@ fn sign_settings<'a>(
 ) -> Result<SignSettings, UsageFault<'a>>
     ensures some { IfOk result (λ s. SetsSign (rows_of (found_of matches.now)) s) }
     ensures none { IfErr result (λ e. (s : SignSettings) → SetsSign (rows_of (found_of matches.now)) s → WantsMemory e) }
-    ensures right { IfErr result (IsRightOf sign_options (rows_of (found_of matches.now))) }
+    ensures right { (meaning : Meanings) → IfErr result (IsRightOf meaning sign_options (rows_of (found_of matches.now))) }
 {
     let cluster = cluster(matches)?;
     let what = what(matches)?;
@@ -60,9 +61,9 @@ fn deliver_settings<'a, A: Opening>(
     alloc: Global,
     matches: &ArgMatches<'a>,
 ) -> Result<DeliverSettings, UsageFault<'a>>
-    ensures some { IfOk result (λ s. SetsDeliver (rows_of (found_of matches.now)) s) }
-    ensures none { IfErr result (λ e. (s : DeliverSettings) → SetsDeliver (rows_of (found_of matches.now)) s → WantsMemory e) }
-    ensures right { IfErr result (IsRightOf deliver_options (rows_of (found_of matches.now))) }
+    ensures some { IfOk result (λ s. SetsDeliver A.meaning (rows_of (found_of matches.now)) s) }
+    ensures none { IfErr result (λ e. (s : DeliverSettings) → SetsDeliver A.meaning (rows_of (found_of matches.now)) s → WantsMemory e) }
+    ensures right { IfErr result (IsRightOf A.meaning deliver_options (rows_of (found_of matches.now))) }
 {
     let cluster = cluster(matches)?;
     let replica = small_number(matches, "replica", 0, cluster.config.replicas - 1)?;
@@ -82,7 +83,7 @@ fn deliver_settings<'a, A: Opening>(
 fn simulate_settings<'a>(matches: &ArgMatches<'a>) -> Result<SimulateSettings, UsageFault<'a>>
     ensures some { IfOk result (λ s. SetsSimulate (rows_of (found_of matches.now)) s) }
     ensures none { OnErr result ((s : SimulateSettings) → SetsSimulate (rows_of (found_of matches.now)) s → ⊥) }
-    ensures right { IfErr result (IsRightOf simulate_options (rows_of (found_of matches.now))) }
+    ensures right { (meaning : Meanings) → IfErr result (IsRightOf meaning simulate_options (rows_of (found_of matches.now))) }
 {
     let seed = seed(matches)?;
     Ok(SimulateSettings {
@@ -96,9 +97,9 @@ fn cluster_settings<'a, A: Opening>(
     alloc: Global,
     matches: &ArgMatches<'a>,
 ) -> Result<ClusterSettings, UsageFault<'a>>
-    ensures some { IfOk result (λ s. SetsRunning (rows_of (found_of matches.now)) s) }
-    ensures none { IfErr result (λ e. (s : ClusterSettings) → SetsRunning (rows_of (found_of matches.now)) s → WantsMemory e) }
-    ensures right { (table : OptionTable) → HasRunning table → IfErr result (IsRightOf table (rows_of (found_of matches.now))) }
+    ensures some { IfOk result (λ s. SetsRunning A.meaning (rows_of (found_of matches.now)) s) }
+    ensures none { IfErr result (λ e. (s : ClusterSettings) → SetsRunning A.meaning (rows_of (found_of matches.now)) s → WantsMemory e) }
+    ensures right { (table : OptionTable) → HasRunning table → IfErr result (IsRightOf A.meaning table (rows_of (found_of matches.now))) }
 {
     let cluster = cluster(matches)?;
     let tx = accepted_transaction::<A>(alloc, matches, "tx", cluster.config.kind)?;
@@ -122,9 +123,9 @@ fn serve_settings<'a, A: Opening>(
     alloc: Global,
     matches: &ArgMatches<'a>,
 ) -> Result<ServeSettings, UsageFault<'a>>
-    ensures some { IfOk result (λ s. SetsServe (rows_of (found_of matches.now)) s) }
-    ensures none { IfErr result (λ e. (s : ServeSettings) → SetsServe (rows_of (found_of matches.now)) s → WantsMemory e) }
-    ensures right { IfErr result (IsRightOf serve_options (rows_of (found_of matches.now))) }
+    ensures some { IfOk result (λ s. SetsServe A.meaning (rows_of (found_of matches.now)) s) }
+    ensures none { IfErr result (λ e. (s : ServeSettings) → SetsServe A.meaning (rows_of (found_of matches.now)) s → WantsMemory e) }
+    ensures right { IfErr result (IsRightOf A.meaning serve_options (rows_of (found_of matches.now))) }
 {
     let cluster = cluster_settings::<A>(alloc, matches)?;
     let port = number(matches, "port", 0, 65_535)?;
@@ -147,7 +148,7 @@ fn audit_settings<'a>(
 ) -> Result<AuditSettings, UsageFault<'a>>
     ensures some { IfOk result (λ s. SetsAudit (rows_of (found_of matches.now)) s) }
     ensures none { IfErr result (λ e. (s : AuditSettings) → SetsAudit (rows_of (found_of matches.now)) s → WantsMemory e) }
-    ensures right { IfErr result (IsRightOf audit_options (rows_of (found_of matches.now))) }
+    ensures right { (meaning : Meanings) → IfErr result (IsRightOf meaning audit_options (rows_of (found_of matches.now))) }
 {
     let cluster = cluster(matches)?;
     let receipt = receipt(alloc, matches)?;
@@ -158,7 +159,7 @@ fn audit_settings<'a>(
 fn draw_settings<'a>(matches: &ArgMatches<'a>) -> Result<DrawSettings, UsageFault<'a>>
     ensures some { IfOk result (λ s. SetsDraw (rows_of (found_of matches.now)) s) }
     ensures none { IfErr result (λ e. (s : DrawSettings) → SetsDraw (rows_of (found_of matches.now)) s → WantsMemory e) }
-    ensures right { IfErr result (IsRightOf draw_options (rows_of (found_of matches.now))) }
+    ensures right { (meaning : Meanings) → IfErr result (IsRightOf meaning draw_options (rows_of (found_of matches.now))) }
 {
     let cluster = cluster(matches)?;
     let height = number(matches, "height", 0, 4096)?;
@@ -177,7 +178,7 @@ fn matches_of<'a>(alloc: Global, words: &'a [&'a str]) -> Result<ArgMatches<'a>,
     ensures found { IfOk result (λ m. subcommand_rows_of m ≡ subcommand_of abft_app (map (λ w. w.now) words.entry.now)) }
     ensures refused { IfErr result (λ e. takes abft_app (map (λ w. w.now) words.entry.now) ≡ true → WantsMemory e) }
     ensures taken { IfOk result (λ _. kinds_of (map (λ w. w.now) words.entry.now) ≡ []) }
-    ensures right { IfErr result (IsRightFault (map (λ w. w.now) words.entry.now)) }
+    ensures right { (meaning : Meanings) → IfErr result (IsRightFault meaning (map (λ w. w.now) words.entry.now)) }
 {
     let command = abft_command(alloc)?;
     match command.try_get_matches_from(words) {
@@ -191,9 +192,9 @@ fn settings_of<'a, A: Opening>(
     alloc: Global,
     matches: &ArgMatches<'a>,
 ) -> Result<Settings, UsageFault<'a>>
-    ensures set { IfOk result (λ s. Sets (subcommand_rows_of matches.now) s) }
-    ensures refused { IfErr result (λ e. (s : Settings) → Sets (subcommand_rows_of matches.now) s → WantsMemory e) }
-    ensures right { IfErr result (IsRightIn (subcommand_rows_of matches.now)) }
+    ensures set { IfOk result (λ s. Sets A.meaning (subcommand_rows_of matches.now) s) }
+    ensures refused { IfErr result (λ e. (s : Settings) → Sets A.meaning (subcommand_rows_of matches.now) s → WantsMemory e) }
+    ensures right { IfErr result (IsRightIn A.meaning (subcommand_rows_of matches.now)) }
 {
     let Some((name, options)) = matches.subcommand() else {
         return Err(UsageFault::NoSubcommand);
@@ -218,14 +219,14 @@ pub fn settings<'a, A: Opening>(
     alloc: Global,
     words: &'a [&'a str],
 ) -> Result<Settings, UsageFault<'a>>
-    ensures set { IfOk result (λ s. IsSet (map (λ w. w.now) words.entry.now) s) }
+    ensures set { IfOk result (λ s. IsSet A.meaning (map (λ w. w.now) words.entry.now) s) }
     // The words have no fault, and ask for neither the help nor the version.
     ensures taken { IfOk result (λ _. kinds_of (map (λ w. w.now) words.entry.now) ≡ []) }
     // Words that set something are refused only if memory runs out.
     ensures refused { IfErr result (λ e. takes abft_app (map (λ w. w.now) words.entry.now) ≡ true
-        → (s : Settings) → IsSet (map (λ w. w.now) words.entry.now) s → WantsMemory e) }
+        → (s : Settings) → IsSet A.meaning (map (λ w. w.now) words.entry.now) s → WantsMemory e) }
     // What the fault says about the words is true.
-    ensures right { IfErr result (IsRightFault (map (λ w. w.now) words.entry.now)) }
+    ensures right { IfErr result (IsRightFault A.meaning (map (λ w. w.now) words.entry.now)) }
 {
     let matches = matches_of(alloc, words)?;
     settings_of::<A>(alloc, &matches)

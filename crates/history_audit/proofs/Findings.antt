@@ -1,4 +1,5 @@
 -- Histories have one finding at most, so an audit that returns a finding returns it whenever it is one.
+use Rattle.ledger_model.specs.Meanings.{Meanings}
 use Rattle.std.specs.Prelude.{◌↔◌, ◌⊎◌, Result, Ok, Err, IfOk}
 use Rattle.std.proofs.Common.{◌≡◌, true, false, List, refl, ap, sym, subst, ◌∙◌, inl, inr}
 use Rattle.std.specs.Result.{IsErrOf}
@@ -17,22 +18,22 @@ use Rattle.history_audit.specs.Followed.{FollowsAll}
 use Rattle.history_audit.specs.Searches.{FindsUnsent}
 use Rattle.history_audit.specs.Findings.{IsFinding}
 
-module _ (config : Config) (ring : Ring) (histories : List History) where
+module _ (meaning : Meanings) (config : Config) (ring : Ring) (histories : List History) where
   -- what an audit may return: a finding, or that memory was refused
   abbrev pub MayReturn : Result (List Value) AuditFault → Type 0
-  MayReturn result = IsErrOf result fault.NoMemory ⊎ IsFinding config ring histories result
+  MayReturn result = IsErrOf result fault.NoMemory ⊎ IsFinding meaning config ring histories result
 
   -- the count was right, and wrong
   no_count : {X : Type 0} → are_of_a_quorum config histories ≡ true → are_of_a_quorum config histories ≡ false → X
   no_count right wrong = absurd (both_ways (are_of_a_quorum config histories) wrong right)
 
   -- there is one finding at most
-  pub one_finding : (result other : Result (List Value) AuditFault) → IsFinding config ring histories result
-      → IsFinding config ring histories other → result ≡ other
+  pub one_finding : (result other : Result (List Value) AuditFault) → IsFinding meaning config ring histories result
+      → IsFinding meaning config ring histories other → result ≡ other
   one_finding (Err fault.NoMemory) other is also = absurd is
-  one_finding (Ok a) (Ok b) is also = ap Ok (ledger_is_unique config histories a b (is.1.1.1) (also.1.1.1))
+  one_finding (Ok a) (Ok b) is also = ap Ok (ledger_is_unique meaning config histories a b (is.1.1.1) (also.1.1.1))
   one_finding (Ok a) (Err fault.Count) is also = no_count (is.0) also
-  one_finding (Ok a) (Err (fault.NotReplay r i)) is also = absurd (no_break config ring histories r i (is.1.0) (also.1))
+  one_finding (Ok a) (Err (fault.NotReplay r i)) is also = absurd (no_break meaning config ring histories r i (is.1.0) (also.1))
   one_finding (Ok a) (Err (fault.Unsent reader i signer)) is also = absurd (is.1.1.0 reader i signer (also.1.1.is))
   one_finding (Ok a) (Err fault.NoMemory) is also = absurd also
   one_finding (Err fault.Count) (Ok b) is also = no_count (also.0) is
@@ -40,18 +41,18 @@ module _ (config : Config) (ring : Ring) (histories : List History) where
   one_finding (Err fault.Count) (Err (fault.NotReplay r i)) is also = no_count (also.0) is
   one_finding (Err fault.Count) (Err (fault.Unsent reader i signer)) is also = no_count (also.0) is
   one_finding (Err fault.Count) (Err fault.NoMemory) is also = absurd also
-  one_finding (Err (fault.NotReplay r i)) (Ok b) is also = absurd (no_break config ring histories r i (also.1.0) (is.1))
+  one_finding (Err (fault.NotReplay r i)) (Ok b) is also = absurd (no_break meaning config ring histories r i (also.1.0) (is.1))
   one_finding (Err (fault.NotReplay r i)) (Err fault.Count) is also = no_count (is.0) also
   one_finding (Err (fault.NotReplay r i)) (Err (fault.NotReplay q j)) is also =
-      let same = one_first_break config ring histories r i q j (is.1) (also.1) in
+      let same = one_first_break meaning config ring histories r i q j (is.1) (also.1) in
       ap (λ x. Err (fault.NotReplay x i)) (same.0) ∙ ap (λ x. Err (fault.NotReplay q x)) (same.1)
   one_finding (Err (fault.NotReplay r i)) (Err (fault.Unsent reader j signer)) is also =
-      absurd (no_break config ring histories r i (also.1.0) (is.1))
+      absurd (no_break meaning config ring histories r i (also.1.0) (is.1))
   one_finding (Err (fault.NotReplay r i)) (Err fault.NoMemory) is also = absurd also
   one_finding (Err (fault.Unsent reader i signer)) (Ok b) is also = absurd (also.1.1.0 reader i signer (is.1.1.is))
   one_finding (Err (fault.Unsent reader i signer)) (Err fault.Count) is also = no_count (is.0) also
   one_finding (Err (fault.Unsent reader i signer)) (Err (fault.NotReplay r j)) is also =
-      absurd (no_break config ring histories r j (is.1.0) (also.1))
+      absurd (no_break meaning config ring histories r j (is.1.0) (also.1))
   one_finding (Err (fault.Unsent r i x)) (Err (fault.Unsent q j y)) is also =
       let same = one_first_unsent histories r i x q j y (is.1.1) (also.1.1) in
       ap (λ n. Err (fault.Unsent n i x)) (same.0) ∙ ap (λ n. Err (fault.Unsent q n x)) (same.1.0)
@@ -60,7 +61,8 @@ module _ (config : Config) (ring : Ring) (histories : List History) where
 
   -- ---- what follows of what an audit may return
 
-  pub ledger_found : (result : Result (List Value) AuditFault) → MayReturn result → IfOk result (λ ledger. IsLedger config histories ledger)
+  pub ledger_found : (result : Result (List Value) AuditFault) → MayReturn result
+      → IfOk result (λ ledger. IsLedger meaning config histories ledger)
   ledger_found (Ok ledger) (inl full) = absurd (apart ledger full)
     where
       apart : (ledger : List Value) → IsErrOf (Ok ledger) fault.NoMemory → ⊥
@@ -78,17 +80,17 @@ module _ (config : Config) (ring : Ring) (histories : List History) where
 
       wrong : IsErrOf result fault.Count → MayReturn result → are_of_a_quorum config histories ≡ false
       wrong is (inl full) = absurd (apart (sym full ∙ is))
-      wrong is (inr finding) = subst (IsFinding config ring histories) is finding
+      wrong is (inr finding) = subst (IsFinding meaning config ring histories) is finding
 
   pub only_found : (result : Result (List Value) AuditFault) → MayReturn result → (finding : Result (List Value) AuditFault)
-      → IsFinding config ring histories finding → IsErrOf result fault.NoMemory ⊎ (result ≡ finding)
+      → IsFinding meaning config ring histories finding → IsErrOf result fault.NoMemory ⊎ (result ≡ finding)
   only_found result (inl full) finding is = inl full
   only_found result (inr found) finding is = inr (one_finding result finding found is)
 
   -- ---- what each part of an audit finds
 
   -- a history isn't a replay
-  pub broken_found : (found : AuditFault) → are_of_a_quorum config histories ≡ true → FollowsAll config ring histories (Err found)
+  pub broken_found : (found : AuditFault) → are_of_a_quorum config histories ≡ true → FollowsAll meaning config ring histories (Err found)
       → MayReturn (Err found)
   broken_found (fault.NotReplay r i) count is = inr (count, is)
   broken_found fault.NoMemory count is = inl refl
@@ -96,7 +98,7 @@ module _ (config : Config) (ring : Ring) (histories : List History) where
   broken_found (fault.Unsent reader i signer) count is = absurd is
 
   -- a statement is unsent
-  pub unsent_found : (found : AuditFault) → are_of_a_quorum config histories ≡ true → AreReplays config ring histories
+  pub unsent_found : (found : AuditFault) → are_of_a_quorum config histories ≡ true → AreReplays meaning config ring histories
       → FindsUnsent histories (Err found) → MayReturn (Err found)
   unsent_found (fault.Unsent reader i signer) count replays is = inr (count, (replays, is))
   unsent_found fault.NoMemory count replays is = inl refl

@@ -1,4 +1,5 @@
 -- Histories that are followed one after the other, and the longest list of blocks among them.
+use Rattle.ledger_model.specs.Meanings.{Meanings}
 use Rattle.std.specs.Prelude.{◌⊎◌}
 use Rattle.std.proofs.Common.{◌≡◌, ℕ, ◌+◌, ◌<◌, ◌≤◌, Bool, true, false, List, [], ◌∷◌, length, take, refl, sym, ap, subst, ◌∙◌}
 use Rattle.std.proofs.Common.{inl, inr, arith, cond}
@@ -41,8 +42,9 @@ longer_none old commits n at_most is = ap (λ b. cond b commits old) (sym (test 
     test a n b at_most is = grind (arith)
 
 -- before the first
-pub longest_first : (config : Config) (ring : Ring) (histories : List History) → LongestBelow config ring histories 0 []
-longest_first config ring histories = record {
+pub longest_first : (meaning : Meanings) (config : Config) (ring : Ring) (histories : List History)
+    → LongestBelow meaning config ring histories 0 []
+longest_first meaning config ring histories = record {
   replays = λ q m less is. none q less;
   some = inl refl;
   each = λ q m less is. none q less;
@@ -52,9 +54,10 @@ longest_first config ring histories = record {
     none q less = absurd (grind (arith))
 
 -- a replica without a history
-pub longest_without : (config : Config) (ring : Ring) (histories : List History) (n : ℕ) (blocks : List Value)
-    → LongestBelow config ring histories n blocks → history_of histories n ≡ None → LongestBelow config ring histories (n + 1) blocks
-longest_without config ring histories n blocks below none = record {
+pub longest_without : (meaning : Meanings) (config : Config) (ring : Ring) (histories : List History) (n : ℕ) (blocks : List Value)
+    → LongestBelow meaning config ring histories n blocks → history_of histories n ≡ None
+    → LongestBelow meaning config ring histories (n + 1) blocks
+longest_without meaning config ring histories n blocks below none = record {
   replays = λ q m less is. below.replays q m (lesser q m less is) is;
   some = below.some;
   each = λ q m less is. below.each q m (lesser q m less is) is;
@@ -67,8 +70,8 @@ longest_without config ring histories n blocks below none = record {
     ]
 
 -- one history more
-module _ (config : Config) (ring : Ring) (histories : List History) (n : ℕ) (old : List Value) (m : History)
-    (below : LongestBelow config ring histories n old) (is : history_of histories n ≡ Some m) where
+module _ (meaning : Meanings) (config : Config) (ring : Ring) (histories : List History) (n : ℕ) (old : List Value) (m : History)
+    (below : LongestBelow meaning config ring histories n old) (is : history_of histories n ≡ Some m) where
   of_n : m.replica ≡ n
   of_n = eqb-true m.replica n ((found_history histories n m is).1)
 
@@ -91,14 +94,14 @@ module _ (config : Config) (ring : Ring) (histories : List History) (n : ℕ) (o
   commits_k q k same at = ap (λ (h : History). commits_of config m.replica h.entries) (is_m q k same at)
       ∙ ap (λ r. commits_of config r k.entries) (of_n ∙ sym same)
 
-  replays_k : (q : ℕ) (k : History) → q ≡ n → history_of histories q ≡ Some k → Replay config ring m.replica m.entries
-      → Replay config ring q k.entries
-  replays_k q k same at replay = subst (λ r. Replay config ring r k.entries) (of_n ∙ sym same)
-      (subst (λ (h : History). Replay config ring m.replica h.entries) (is_m q k same at) replay)
+  replays_k : (q : ℕ) (k : History) → q ≡ n → history_of histories q ≡ Some k → Replay meaning config ring m.replica m.entries
+      → Replay meaning config ring q k.entries
+  replays_k q k same at replay = subst (λ r. Replay meaning config ring r k.entries) (of_n ∙ sym same)
+      (subst (λ (h : History). Replay meaning config ring m.replica h.entries) (is_m q k same at) replay)
 
   longer : (b : Bool) (new : List Value) → nat_lt (length old) (length (commits_of config m.replica m.entries)) ≡ b
-      → new ≡ cond b (commits_of config m.replica m.entries) old → Replay config ring m.replica m.entries
-      → LongestBelow config ring histories (n + 1) new
+      → new ≡ cond b (commits_of config m.replica m.entries) old → Replay meaning config ring m.replica m.entries
+      → LongestBelow meaning config ring histories (n + 1) new
   longer true new less new_is replay = record {
     replays = λ q k before at. by_last q k before at (λ lt. below.replays q k lt at) (λ same. replays_k q k same at replay);
     some = inr (n, (m, (is, new_is ∙ commits_n)));
@@ -124,29 +127,29 @@ module _ (config : Config) (ring : Ring) (histories : List History) (n : ℕ) (o
       under : (a b : ℕ) → nat_lt a b ≡ false → b ≤ a
       under a b less = grind (arith)
 
-  stops : (r i : ℕ) → r ≡ m.replica → StopsAt config ring m.replica m.entries i → IsFirstBreak config ring histories r i
+  stops : (r i : ℕ) → r ≡ m.replica → StopsAt meaning config ring m.replica m.entries i → IsFirstBreak meaning config ring histories r i
   stops r i same stop =
       let r_n : n ≡ r = sym (same ∙ of_n) in
-      subst (λ x. IsFirstBreak config ring histories x i) r_n (record {
+      subst (λ x. IsFirstBreak meaning config ring histories x i) r_n (record {
         breaks = record {
           history = m;
           of = is;
           inside = stop.inside;
-          before = subst (λ x. Replay config ring x (take i m.entries)) of_n stop.before;
-          broken = λ whole. stop.broken (subst (λ x. Replay config ring x (take (i + 1) m.entries)) (sym of_n) whole);
+          before = subst (λ x. Replay meaning config ring x (take i m.entries)) of_n stop.before;
+          broken = λ whole. stop.broken (subst (λ x. Replay meaning config ring x (take (i + 1) m.entries)) (sym of_n) whole);
         };
         least = λ q k less at. below.replays q k less at;
       })
 
   -- the history is a replay
-  pub follows_one : (u : Unit {0}) (new : List Value) → FollowsOne config ring m old (Ok u) new
-      → LongestBelow config ring histories (n + 1) new
+  pub follows_one : (u : Unit {0}) (new : List Value) → FollowsOne meaning config ring m old (Ok u) new
+      → LongestBelow meaning config ring histories (n + 1) new
   follows_one u new followed =
       longer (nat_lt (length old) (length (commits_of config m.replica m.entries))) new refl (followed.1) (followed.0)
 
   -- it isn't
-  pub stops_all : (found : AuditFault) (new : List Value) → FollowsOne config ring m old (Err found) new
-      → FollowsAll config ring histories (Err found)
+  pub stops_all : (found : AuditFault) (new : List Value) → FollowsOne meaning config ring m old (Err found) new
+      → FollowsAll meaning config ring histories (Err found)
   stops_all (fault.NotReplay r i) new followed = stops r i (followed.0) (followed.1)
   stops_all fault.NoMemory new followed = followed
   stops_all fault.Count new followed = followed
@@ -199,10 +202,10 @@ block_at-next commits i =
     one_less n = grind (arith)
 
 -- at the end
-pub longest_of_all : (config : Config) (ring : Ring) (histories : List History) (n : ℕ) (blocks : List Value)
-    → are_of_a_quorum config histories ≡ true → config.replicas ≤ n → LongestBelow config ring histories n blocks
-    → AreReplays config ring histories × IsLongest config histories blocks
-longest_of_all config ring histories n blocks count all below = (
+pub longest_of_all : (meaning : Meanings) (config : Config) (ring : Ring) (histories : List History) (n : ℕ) (blocks : List Value)
+    → are_of_a_quorum config histories ≡ true → config.replicas ≤ n → LongestBelow meaning config ring histories n blocks
+    → AreReplays meaning config ring histories × IsLongest config histories blocks
+longest_of_all meaning config ring histories n blocks count all below = (
   λ r m is. below.replays r m (member r m is) is,
   record {
     some = elim below.some [
@@ -223,15 +226,17 @@ longest_of_all config ring histories n blocks count all below = (
     member r m is = under r config.replicas n (is_member config histories r m count is) all
 
 -- the longest list is the ledger
-pub ledger_of : (config : Config) (ring : Ring) (histories : List History) (blocks : List Value) → are_of_a_quorum config histories ≡ true
-    → AreReplays config ring histories → NothingUnsent histories → IsLongest config histories blocks → IsLedger config histories blocks
-ledger_of config ring histories blocks count replays sent longest =
-    let ledger = audited_histories_have_ledger config ring histories count replays sent in
+pub ledger_of : (meaning : Meanings) (config : Config) (ring : Ring) (histories : List History) (blocks : List Value)
+    → are_of_a_quorum config histories ≡ true
+    → AreReplays meaning config ring histories → NothingUnsent histories → IsLongest config histories blocks
+    → IsLedger meaning config histories blocks
+ledger_of meaning config ring histories blocks count replays sent longest =
+    let ledger = audited_histories_have_ledger meaning config ring histories count replays sent in
     let r = longest.some.0 in
     let m = longest.some.1.0 in
     let of : history_of histories r ≡ Some m = longest.some.1.1.0 in
     let blocks_are : blocks ≡ commits_of config r m.entries = longest.some.1.1.1 in
     let same : ledger.0 ≡ commits_of config r m.entries =
-    ledger_is_longest config histories (ledger.0) r m (ledger.1) of
+    ledger_is_longest meaning config histories (ledger.0) r m (ledger.1) of
     (λ q n is. subst (λ (x : List Value). length (commits_of config q n.entries) ≤ length x) blocks_are (longest.each q n is)) in
-    subst (IsLedger config histories) (same ∙ sym blocks_are) (ledger.1)
+    subst (IsLedger meaning config histories) (same ∙ sym blocks_are) (ledger.1)

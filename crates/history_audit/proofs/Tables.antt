@@ -10,7 +10,7 @@ use Rattle.std.proofs.lemmas.List.Folds.{list_any-append}
 use Rattle.std.proofs.lemmas.Bool.{and_parts, cases_Bool, eqb-true}
 use Rattle.indexmap.specs.IndexSet.{insert_key}
 use Rattle.ledger_model.proofs.Lists.{pointwise_equal}
-use Rattle.ledger_model.specs.Applications.{same_bytes}
+use Rattle.ledger_model.specs.Values.{same_bytes}
 use Rattle.ledger_model.specs.Pools.{is_among}
 use Rattle.ledger_model.specs.Reading.{reading}
 use Rattle.ledger_model.specs.Spelling.{statement_bytes}

@@ -1,4 +1,5 @@
 -- What an audit of histories finds if memory suffices: their ledger, or the first fault. There is one finding at most.
+use Rattle.ledger_model.specs.Meanings.{Meanings}
 use Rattle.std.specs.Prelude.{◌≡◌, true, false, List, Result, Ok, Err}
 use Rattle.ledger_model.specs.declared.config.Config.{Config}
 use Rattle.ledger_model.specs.declared.history.History.{History}
@@ -10,13 +11,13 @@ use Rattle.history_audit.specs.declared.fault.AuditFault.{AuditFault}
 use Rattle.history_audit.specs.declared.fault.AuditFault.TheVariants as fault
 
 -- what an audit of these histories finds, if memory suffices
-abbrev pub IsFinding : Config → Ring → List History → Result (List Value) AuditFault → Type 0
-IsFinding config ring histories (Ok ledger) =
+abbrev pub IsFinding : Meanings → Config → Ring → List History → Result (List Value) AuditFault → Type 0
+IsFinding meaning config ring histories (Ok ledger) =
     (are_of_a_quorum config histories ≡ true)
-    × (AreReplays config ring histories × (NothingUnsent histories × IsLedger config histories ledger))
-IsFinding config ring histories (Err fault.Count) = are_of_a_quorum config histories ≡ false
-IsFinding config ring histories (Err (fault.NotReplay r i)) =
-    (are_of_a_quorum config histories ≡ true) × IsFirstBreak config ring histories r i
-IsFinding config ring histories (Err (fault.Unsent reader i signer)) =
-    (are_of_a_quorum config histories ≡ true) × (AreReplays config ring histories × IsFirstUnsent histories reader i signer)
-IsFinding config ring histories (Err fault.NoMemory) = ⊥
+    × (AreReplays meaning config ring histories × (NothingUnsent histories × IsLedger meaning config histories ledger))
+IsFinding meaning config ring histories (Err fault.Count) = are_of_a_quorum config histories ≡ false
+IsFinding meaning config ring histories (Err (fault.NotReplay r i)) =
+    (are_of_a_quorum config histories ≡ true) × IsFirstBreak meaning config ring histories r i
+IsFinding meaning config ring histories (Err (fault.Unsent reader i signer)) =
+    (are_of_a_quorum config histories ≡ true) × (AreReplays meaning config ring histories × IsFirstUnsent histories reader i signer)
+IsFinding meaning config ring histories (Err fault.NoMemory) = ⊥

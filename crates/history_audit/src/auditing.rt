@@ -30,8 +30,8 @@ fn audit_quorum<A: Application>(
 ) -> Result<Ledger, AuditFault>
     requires count { are_of_a_quorum config.now histories.now ≡ true }
     requires enough { length histories.now ≤ length apps.items }
-    requires opening { All (λ app. A.machine app ≡ run config.now.kind []) apps.items }
-    ensures { IsErrOf result AuditFault.NoMemory ⊎ IsFinding config.now ring.now histories.now result }
+    requires opening { All (λ app. A.machine app ≡ run A.meaning config.now.kind []) apps.items }
+    ensures { IsErrOf result AuditFault.NoMemory ⊎ IsFinding A.meaning config.now ring.now histories.now result }
 {
     let mut verifier = shared_verifier(alloc, ring, histories, random)?;
     let ledger = follow_all(alloc, config, &mut verifier, histories, apps, random)?;
@@ -63,15 +63,15 @@ pub fn audit<A: Application>(
     random: RandomState,
 ) -> Result<Ledger, AuditFault>
     requires enough { length histories.now ≤ config.now.replicas → length histories.now ≤ length apps.items }
-    requires opening { All (λ app. A.machine app ≡ run config.now.kind []) apps.items }
+    requires opening { All (λ app. A.machine app ≡ run A.meaning config.now.kind []) apps.items }
     // The histories are those of one ledger, which is returned.
-    ensures ledger { IfOk result (λ ledger. IsLedger config.now histories.now ledger) }
+    ensures ledger { IfOk result (λ ledger. IsLedger A.meaning config.now histories.now ledger) }
     // A wrong count is found even if memory is refused.
     ensures count { IsErrOf result AuditFault.Count ↔ (are_of_a_quorum config.now histories.now ≡ false) }
     // Memory aside, the result is what an audit of the histories finds.
-    ensures finding { IsErrOf result AuditFault.NoMemory ⊎ IsFinding config.now ring.now histories.now result }
+    ensures finding { IsErrOf result AuditFault.NoMemory ⊎ IsFinding A.meaning config.now ring.now histories.now result }
     // Memory aside, whatever an audit of the histories finds is the result.
-    ensures only { (finding : Result (List Value) AuditFault) → IsFinding config.now ring.now histories.now finding
+    ensures only { (finding : Result (List Value) AuditFault) → IsFinding A.meaning config.now ring.now histories.now finding
         → IsErrOf result AuditFault.NoMemory ⊎ (result ≡ finding) }
 {
     if !are_of_a_quorum(config, histories) {

@@ -23,10 +23,11 @@ fn follow<A: Application>(
     follower: &mut Follower<A>,
     entries: &[Entry],
 ) -> Result<Option<usize>, AllocError>
-    requires first { MatchesHistory follower.old.replay [] }
+    requires first { MatchesHistory A.meaning follower.old.replay [] }
     requires kept { follower.old.lost ≡ false }
-    ensures answer { IfOk result (AnswersFollowing follower.old.replay.config follower.old.replay.ring follower.old.replay.id entries.now) }
-    ensures matches { result ≡ Ok None → MatchesHistory follower.new.replay entries.now }
+    ensures answer { IfOk result (AnswersFollowing A.meaning follower.old.replay.config follower.old.replay.ring follower.old.replay.id
+        entries.now) }
+    ensures matches { result ≡ Ok None → MatchesHistory A.meaning follower.new.replay entries.now }
     ensures same { IsSameReplay follower.old.replay follower.new.replay }
 {
     for (index, entry) in entries.iter().enumerate() {
@@ -63,8 +64,8 @@ fn followed<A: Application>(
     random: RandomState,
 ) -> Result<Follower<A>, AuditFault>
     requires member { history.now.replica < config.now.replicas }
-    requires opening { A.machine app ≡ run config.now.kind [] }
-    ensures answer { FollowedTo config.now verifier.old.ring history.now result }
+    requires opening { A.machine app ≡ run A.meaning config.now.kind [] }
+    ensures answer { FollowedTo A.meaning config.now verifier.old.ring history.now result }
     ensures ring { verifier.new.ring ≡ verifier.old.ring }
 {
     let ring = verifier.ring().copy()?;
@@ -92,8 +93,8 @@ fn follow_one<A: Application>(
     ledger: &mut Ledger,
 ) -> Result<(), AuditFault>
     requires member { history.now.replica < config.now.replicas }
-    requires opening { A.machine app ≡ run config.now.kind [] }
-    ensures answer { FollowsOne config.now verifier.old.ring history.now ledger.old result ledger.new }
+    requires opening { A.machine app ≡ run A.meaning config.now.kind [] }
+    ensures answer { FollowsOne A.meaning config.now verifier.old.ring history.now ledger.old result ledger.new }
     ensures ring { verifier.new.ring ≡ verifier.old.ring }
 {
     let follower = followed(alloc, config, verifier, history, app, random)?;
@@ -117,8 +118,8 @@ pub(crate) fn follow_all<A: Application>(
 ) -> Result<Ledger, AuditFault>
     requires count { are_of_a_quorum config.now histories.now ≡ true }
     requires enough { length histories.now ≤ length apps.items }
-    requires opening { AllByRecursion (λ app. A.machine app ≡ run config.now.kind []) apps.items }
-    ensures { FollowsAll config.now verifier.old.ring histories.now result }
+    requires opening { AllByRecursion (λ app. A.machine app ≡ run A.meaning config.now.kind []) apps.items }
+    ensures { FollowsAll A.meaning config.now verifier.old.ring histories.now result }
 {
     let mut ledger = Ledger::new(alloc);
     let mut apps = apps.into_iter();

@@ -23,7 +23,7 @@ pub fn audited<A: Opening, S: RandomSource>(
     ring: &KeyRing,
     histories: &[History],
 ) -> Result<Result<Ledger, AuditFault>, ProgramFault>
-    ensures finds { IfOk result (λ finding. IsFinding config.now ring.now histories.now finding) }
+    ensures finds { IfOk result (λ finding. IsFinding A.meaning config.now ring.now histories.now finding) }
     ensures fault { IfErr result IsMemoryOrRandom }
 {
     let random = new_random_key(source)?;

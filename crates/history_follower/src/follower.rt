@@ -47,10 +47,10 @@ impl<A: Application> Follower<A> {
         random: RandomState,
     ) -> Result<Self, AllocError>
         requires member { id < config.replicas }
-        requires opening { A.machine app ≡ run config.kind [] }
-        ensures new { IfOk result (λ follower. follower ≡ record { replay = new_replay config id ring; lost = false }) }
+        requires opening { A.machine app ≡ run A.meaning config.kind [] }
+        ensures new { IfOk result (λ follower. follower ≡ record { replay = new_replay A.meaning config id ring; lost = false }) }
         // It matches the empty history.
-        ensures matches { IfOk result (λ follower. MatchesHistory follower.replay []) }
+        ensures matches { IfOk result (λ follower. MatchesHistory A.meaning follower.replay []) }
     {
         Ok(Follower {
             replay: Replay::new(alloc, config, id, ring, app, [random, random])?,
@@ -70,11 +70,12 @@ impl<A: Application> Follower<A> {
         reply: &Reply,
     ) -> Result<bool, AllocError>
         // It returns true exactly if the entry continues each replay that the follower matches.
-        ensures exact { IfOk result (λ kept. self.old.lost ≡ false → (entries : List Entry) → MatchesHistory self.old.replay entries
-            → kept ≡ true ↔ KeepsReplay self.old.replay entries event.now reply.now) }
+        ensures exact { IfOk result (λ kept. self.old.lost ≡ false → (entries : List Entry)
+            → MatchesHistory A.meaning self.old.replay entries
+            → kept ≡ true ↔ KeepsReplay A.meaning self.old.replay entries event.now reply.now) }
         // The follower then matches the history with this entry appended.
-        ensures matches { IfOk result (λ kept. kept ≡ true → (entries : List Entry) → MatchesHistory self.old.replay entries
-            → MatchesHistory self.new.replay (entries ++ record { event = event.now; reply = reply.now } ∷ [])) }
+        ensures matches { IfOk result (λ kept. kept ≡ true → (entries : List Entry) → MatchesHistory A.meaning self.old.replay entries
+            → MatchesHistory A.meaning self.new.replay (entries ++ record { event = event.now; reply = reply.now } ∷ [])) }
         ensures lost { IfOk result (λ kept. self.new.lost ≡ not kept) }
         // A follower that is lost stays lost.
         ensures for_good { IfOk result (λ kept. self.old.lost ≡ true → kept ≡ false) }

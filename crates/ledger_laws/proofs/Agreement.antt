@@ -1,4 +1,5 @@
 -- A lock that more than t correct replicas took stays, and what correct replicas decide at a height is one value.
+use Rattle.ledger_model.specs.Meanings.{Meanings}
 use Rattle.std.proofs.Common.{◌≡◌, ℕ, zero, suc, ◌+◌, ◌*◌, ◌/◌, ◌<◌, ◌≤◌, Bool, true, ◌&&◌, ◌⊎◌, inl, inr, List, length, refl, sym}
 use Rattle.std.proofs.Common.{ap, subst, ◌∙◌, arith}
 use Rattle.std.specs.Prelude.{nat_eq, find, Option, Some, None, is_some}
@@ -51,14 +52,15 @@ pub record Settled (config : Config) (histories : List History) (h : ℕ) (v : V
   pub valid : ValidLock (Backed config histories) config lock
   pub taken : 1 + config.faults ≤ number_of config (λ r. is_correct histories r && took (log_in config histories h r) v phase)
 
-module _ (config : Config) (ring : Ring) (histories : List History) (correct : AreCorrect config ring histories) (h : ℕ) where
+module _ (meaning : Meanings) (config : Config) (ring : Ring) (histories : List History)
+    (correct : AreCorrect meaning config ring histories) (h : ℕ) where
   -- the log of a correct replica is good
   pub good_in : (r : ℕ) → is_correct histories r ≡ true → Good config r h (log_in config histories h r)
   good_in r is = of_history (history_of histories r) refl is
     where
       of_history : (o : Option History) → history_of histories r ≡ o → is_some o ≡ true → Good config r h (log_if config h r o)
       of_history None eq there = cc
-      of_history (Some m) eq there = follows_good config ring r h m.entries (correct.follows r m eq)
+      of_history (Some m) eq there = follows_good meaning config ring r h m.entries (correct.follows r m eq)
 
   -- the locks that it made in a phase are one
   pub same_lock : (r : ℕ) → is_correct histories r ≡ true → (c d : ℕ) (l m : Lock)
@@ -76,7 +78,8 @@ module _ (config : Config) (ring : Ring) (histories : List History) (correct : A
       (subst (λ x. Has (log_in config histories h r) (OwnStatement x (statement.Lock m))) same_round has_m) in
       lock_is l m (is_only (right_l.made) (statement.Lock l) (statement.Lock m) (told_l.1.0) there)
 
-module _ (config : Config) (ring : Ring) (histories : List History) (correct : AreCorrect config ring histories) (h : ℕ)
+module _ (meaning : Meanings) (config : Config) (ring : Ring) (histories : List History)
+    (correct : AreCorrect meaning config ring histories) (h : ℕ)
     (backed : ReadsBacked config histories h) where
   -- where it speaks of the height, what is backed was made in the log there
   pub backed_here : (s : Statement) → height_of s ≡ h → Backed config histories s
@@ -103,15 +106,15 @@ module _ (config : Config) (ring : Ring) (histories : List History) (correct : A
   pub conduct : Conduct config (is_correct histories) (log_in config histories h)
   conduct = record {
     reports = λ r is c p has.
-        let m = (good_in config ring histories correct h r is).made c (statement.Report p) has in
+        let m = (good_in meaning config ring histories correct h r is).made c (statement.Report p) has in
         let told = report_made config r h (m.front) c (m.made) p (made_cases config r h (m.front) c (m.mute) (m.made) (m.may)) (m.has) in
         (m.front, (m.opened, told));
     one_lock = λ r is c d l m has_l has_m phase. ap (λ (x : Lock). x.value)
-        (same_lock config ring histories correct h r is c d l m has_l has_m phase);
+        (same_lock meaning config ring histories correct h r is c d l m has_l has_m phase);
     valid = λ r is c s l has same.
-        let good = (good_in config ring histories correct h r is).reads c s has in let good_lock = good.locks l same in
+        let good = (good_in meaning config ring histories correct h r is).reads c s has in let good_lock = good.locks l same in
         let whole = backed r c s is has in
-        let of_height : l.height ≡ h = sym (ap height_of same) ∙ (good_in config ring histories correct h r is).heights c s has in
+        let of_height : l.height ≡ h = sym (ap height_of same) ∙ (good_in meaning config ring histories correct h r is).heights c s has in
         valid_here l of_height (record {
           backed = subst (Backed config histories) same (whole.own);
           owner = good_lock.owner;
@@ -146,13 +149,13 @@ module _ (config : Config) (ring : Ring) (histories : List History) (correct : A
       let phase : a.phase ≡ k = eqb-true (a.phase) k (inner.1) in
       let value : v ≡ a.value = same_value-equal v (a.value) (outer.1) in
       let of_height : a.height ≡ h =
-      sym (ap height_of (ack.1.0)) ∙ (good_in config ring histories correct h r is).heights (round_at ack_place k) s (found.1.0) in
+      sym (ap height_of (ack.1.0)) ∙ (good_in meaning config ring histories correct h r is).heights (round_at ack_place k) s (found.1.0) in
       let whole = backed r (round_at ack_place k) s is (found.1.0) in
       let made = backed_here (statement.Ack a) of_height (subst (Backed config histories) (ack.1.0) (whole.own))
       (ap (is_correct histories) signer ∙ also) in
       let made_x : Has (log_in config histories h x) (OwnStatement (made.0) (statement.Ack a)) =
       subst (λ y. Has (log_in config histories h y) (OwnStatement (made.0) (statement.Ack a))) signer (made.1) in
-      let m = (good_in config ring histories correct h x also).made (made.0) (statement.Ack a) made_x in
+      let m = (good_in meaning config ring histories correct h x also).made (made.0) (statement.Ack a) made_x in
       let told = ack_made config x h (m.front) (made.0) (m.made) a (made_cases config x h (m.front) (made.0) (m.mute) (m.made) (m.may))
       (m.has) in
       let took_front = (found_has (λ w. took (m.front) w (a.phase)) (filter_map value_read (m.front)) (a.value) (told.1)).1 in
@@ -181,7 +184,7 @@ module _ (config : Config) (ring : Ring) (histories : List History) (correct : A
       let l = lock.0 in
       let made_l : Has (log_in config histories h r) (OwnStatement (round_at lock_place k) (statement.Lock l)) =
       subst (λ s. Has (log_in config histories h r) (OwnStatement (round_at lock_place k) s)) (lock.1.0) (made.1.0) in
-      let m = (good_in config ring histories correct h r is).made (round_at lock_place k) (statement.Lock l) made_l in
+      let m = (good_in meaning config ring histories correct h r is).made (round_at lock_place k) (statement.Lock l) made_l in
       let told = lock_made config r h (m.front) (round_at lock_place k) (m.made) l
       (made_cases config r h (m.front) (round_at lock_place k) (m.mute) (m.made) (m.may)) (m.has) in
       let own = told.1.1.0 in

@@ -1,4 +1,5 @@
 -- What an audit finds in the examples, by computing.
+use Rattle.ledger_model.specs.Kinds.{meaning_of}
 use Rattle.std.proofs.Common.{◌≡◌, ℕ, zero, suc, ◌≤◌, inl, inr, List, [], ◌∷◌, refl, sym, ap, subst, ◌∙◌, arith}
 use Rattle.std.specs.Prelude.{IsTrue, Some, slice_get}
 use Rattle.std.specs.List.{AllByRecursion}
@@ -85,7 +86,7 @@ nothing_of_three of_0 of_1 of_2 none_0 none_1 none_2 r i x is =
     (none_of histories of_0 none_0 i x) (none_of histories of_1 none_1 i x) (none_of histories of_2 none_2 i x) r is.history is.of is.entry
     is.at is.unsent
 
-quiet_replay_1 : Replay (four KvStore) [] 1 (quiet_end ∷ [])
+quiet_replay_1 : Replay meaning_of (four KvStore) [] 1 (quiet_end ∷ [])
 unfolding Replay ReplaysFrom log_of log_after notes_of statements_made statements_sent own_ack MayMake
 quiet_replay_1 = (
   (
@@ -96,7 +97,7 @@ quiet_replay_1 = (
   tt,
 )
 
-quiet_replay_2 : Replay (four KvStore) [] 2 (quiet_end ∷ quiet_end ∷ [])
+quiet_replay_2 : Replay meaning_of (four KvStore) [] 2 (quiet_end ∷ quiet_end ∷ [])
 unfolding Replay ReplaysFrom log_of log_after notes_of statements_made statements_sent own_ack MayMake
 quiet_replay_2 = (
   (
@@ -119,7 +120,7 @@ unfolding unsent_in
 quiet_histories_pass = (
   refl,
   λ r m found. each_of_three round_entries (quiet_end ∷ []) (quiet_end ∷ quiet_end ∷ [])
-      (λ q n. Replay (four KvStore) [] q n.entries) round_entries_replay quiet_replay_1 quiet_replay_2 r m found,
+      (λ q n. Replay meaning_of (four KvStore) [] q n.entries) round_entries_replay quiet_replay_1 quiet_replay_2 r m found,
   nothing_of_three round_entries (quiet_end ∷ []) (quiet_end ∷ quiet_end ∷ []) (refl, (refl, (refl, (refl, (refl, (refl, tt)))))) (refl, tt)
       (refl, (refl, tt)),
 )

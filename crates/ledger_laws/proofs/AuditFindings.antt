@@ -1,4 +1,5 @@
 -- Histories have at most one first break and one first unsent statement; histories that are replays have no break.
+use Rattle.ledger_model.specs.Meanings.{Meanings}
 use Rattle.std.proofs.Common.{◌≡◌, ℕ, zero, suc, ◌+◌, ◌<◌, Bool, true, false, ◌&&◌, ◌||◌, inl, inr, List, [], ◌∷◌, ◌++◌, take}
 use Rattle.std.proofs.Common.{refl, sym, subst, ◌∙◌, arith}
 use Rattle.std.specs.Prelude.{nat_eq, nat_lt, nat_le, Some}
@@ -16,39 +17,43 @@ use Rattle.ledger_model.specs.Audits.{AreReplays, BreaksAt, IsFirstBreak, IsFirs
 -- ---- the first break
 
 -- the first entries of a replay are a replay
-replays_front : (config : Config) (ring : Ring) (id n : ℕ) (front es : List Entry) → ReplaysFrom config ring id front es
-    → ReplaysFrom config ring id front (take n es)
+replays_front : (meaning : Meanings) (config : Config) (ring : Ring) (id n : ℕ) (front es : List Entry)
+    → ReplaysFrom meaning config ring id front es
+    → ReplaysFrom meaning config ring id front (take n es)
 unfolding ReplaysFrom
-replays_front config ring id zero front es replays = tt
-replays_front config ring id (suc n) front [] replays = tt
-replays_front config ring id (suc n) front (e ∷ es) replays =
-    (replays.0, replays.1, replays_front config ring id n (front ++ e ∷ []) es (replays.2))
+replays_front meaning config ring id zero front es replays = tt
+replays_front meaning config ring id (suc n) front [] replays = tt
+replays_front meaning config ring id (suc n) front (e ∷ es) replays =
+    (replays.0, replays.1, replays_front meaning config ring id n (front ++ e ∷ []) es (replays.2))
 
-pub replay_front : (config : Config) (ring : Ring) (id n : ℕ) (es : List Entry) → Replay config ring id es
-    → Replay config ring id (take n es)
+pub replay_front : (meaning : Meanings) (config : Config) (ring : Ring) (id n : ℕ) (es : List Entry) → Replay meaning config ring id es
+    → Replay meaning config ring id (take n es)
 unfolding Replay
-replay_front config ring id n es replay = replays_front config ring id n [] es replay
+replay_front meaning config ring id n es replay = replays_front meaning config ring id n [] es replay
 
 -- a history that breaks isn't a replay
-breaks_no_replay : (config : Config) (ring : Ring) (histories : List History) (r i : ℕ) → BreaksAt config ring histories r i
-    → ((m : History) → history_of histories r ≡ Some m → Replay config ring r m.entries) → ⊥
-breaks_no_replay config ring histories r i breaks replay =
-    breaks.broken (replay_front config ring r (i + 1) breaks.history.entries (replay breaks.history breaks.of))
+breaks_no_replay : (meaning : Meanings) (config : Config) (ring : Ring) (histories : List History) (r i : ℕ)
+    → BreaksAt meaning config ring histories r i
+    → ((m : History) → history_of histories r ≡ Some m → Replay meaning config ring r m.entries) → ⊥
+breaks_no_replay meaning config ring histories r i breaks replay =
+    breaks.broken (replay_front meaning config ring r (i + 1) breaks.history.entries (replay breaks.history breaks.of))
 
 -- replays have no break
-pub no_break : (config : Config) (ring : Ring) (histories : List History) (r i : ℕ) → AreReplays config ring histories
-    → IsFirstBreak config ring histories r i → ⊥
-no_break config ring histories r i replays first = breaks_no_replay config ring histories r i first.breaks (replays r)
+pub no_break : (meaning : Meanings) (config : Config) (ring : Ring) (histories : List History) (r i : ℕ)
+    → AreReplays meaning config ring histories
+    → IsFirstBreak meaning config ring histories r i → ⊥
+no_break meaning config ring histories r i replays first = breaks_no_replay meaning config ring histories r i first.breaks (replays r)
 
 -- a history breaks no earlier than where it breaks
-no_earlier : (config : Config) (ring : Ring) (histories : List History) (r i j : ℕ) → BreaksAt config ring histories r i
-    → BreaksAt config ring histories r j → i < j → ⊥
-no_earlier config ring histories r i j first other less =
+no_earlier : (meaning : Meanings) (config : Config) (ring : Ring) (histories : List History) (r i j : ℕ)
+    → BreaksAt meaning config ring histories r i
+    → BreaksAt meaning config ring histories r j → i < j → ⊥
+no_earlier meaning config ring histories r i j first other less =
     let same : other.history ≡ first.history = same_Some other.history first.history (sym other.of ∙ first.of) in
-    let before : Replay config ring r (take j first.history.entries) =
-    subst (λ (m : History). Replay config ring r (take j m.entries)) same other.before in
-    first.broken (subst (Replay config ring r) (take-take (i + 1) j first.history.entries (omega (arith, less)))
-    (replay_front config ring r (i + 1) (take j first.history.entries) before))
+    let before : Replay meaning config ring r (take j first.history.entries) =
+    subst (λ (m : History). Replay meaning config ring r (take j m.entries)) same other.before in
+    first.broken (subst (Replay meaning config ring r) (take-take (i + 1) j first.history.entries (omega (arith, less)))
+    (replay_front meaning config ring r (i + 1) (take j first.history.entries) before))
 
 between : (a b : ℕ) → (a < b → ⊥) → (b < a → ⊥) → a ≡ b
 between a b one other =
@@ -64,15 +69,17 @@ between a b one other =
     same a b at_least at_most = grind (arith)
 
 -- there is one first break at most
-pub one_first_break : (config : Config) (ring : Ring) (histories : List History) (r i q j : ℕ)
-    → IsFirstBreak config ring histories r i → IsFirstBreak config ring histories q j → (r ≡ q) × (i ≡ j)
-one_first_break config ring histories r i q j first other =
+pub one_first_break : (meaning : Meanings) (config : Config) (ring : Ring) (histories : List History) (r i q j : ℕ)
+    → IsFirstBreak meaning config ring histories r i → IsFirstBreak meaning config ring histories q j → (r ≡ q) × (i ≡ j)
+one_first_break meaning config ring histories r i q j first other =
     let same : r ≡ q =
-    between r q (λ less. breaks_no_replay config ring histories r i first.breaks (λ m of. other.least r m less of))
-    (λ less. breaks_no_replay config ring histories q j other.breaks (λ m of. first.least q m less of)) in
-    let here : BreaksAt config ring histories r j = subst (λ x. BreaksAt config ring histories x j) (sym same) other.breaks in (
+    between r q (λ less. breaks_no_replay meaning config ring histories r i first.breaks (λ m of. other.least r m less of))
+    (λ less. breaks_no_replay meaning config ring histories q j other.breaks (λ m of. first.least q m less of)) in
+    let here : BreaksAt meaning config ring histories r j = subst (λ x. BreaksAt meaning config ring histories x j)
+    (sym same) other.breaks in (
       same,
-      between i j (no_earlier config ring histories r i j first.breaks here) (no_earlier config ring histories r j i here first.breaks),
+      between i j (no_earlier meaning config ring histories r i j first.breaks here)
+          (no_earlier meaning config ring histories r j i here first.breaks),
     )
 
 -- ---- the first unsent statement

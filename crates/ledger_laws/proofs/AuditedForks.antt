@@ -87,9 +87,9 @@ module _ (histories : List History) where
 
 -- where replays fork, some accepted statement is unsent
 pub fork_is_caught : ForkIsCaught
-fork_is_caught config ring histories r q i m n v w count replay found_m found_n at_v at_w differ =
+fork_is_caught meaning config ring histories r q i m n v w count replay found_m found_n at_v at_w differ =
     elim (some_or_nothing histories) [
       | inl some ↦ some
-      | inr nothing ↦ absurd (let one = audited_histories_have_ledger config ring histories count replay nothing in
-          fork_has_no_ledger config histories r q i m n v w found_m found_n at_v at_w differ one.0 one.1)
+      | inr nothing ↦ absurd (let one = audited_histories_have_ledger meaning config ring histories count replay nothing in
+          fork_has_no_ledger meaning config histories r q i m n v w found_m found_n at_v at_w differ one.0 one.1)
     ]

@@ -1,4 +1,5 @@
 -- An audit that finds no fault shows that the histories have one ledger.
+use Rattle.ledger_model.specs.Meanings.{Meanings}
 use Rattle.std.proofs.Common.{◌≡◌, ℕ, ◌+◌, ◌≤◌, ◌<◌, Bool, true, false, not, ◌&&◌, ◌||◌, inl, inr, List, [], ◌∷◌, ◌++◌, length, map}
 use Rattle.std.proofs.Common.{refl, sym, ap, subst, ◌∙◌, append_assoc, arith}
 use Rattle.std.specs.Prelude.{nat_eq, nat_lt, nat_le, find, Some, Ok, is_some, slice_get}
@@ -27,7 +28,7 @@ use Rattle.ledger_model.specs.Rules.{Ring, answer_to, with_signature}
 use Rattle.ledger_model.specs.Lawful.{Lawful, answer, Follows, Replay}
 use Rattle.ledger_model.specs.Groups.{history_of, is_correct, log_if, log_in, Backed, BackedWhole, AreCorrect, ReadsBacked}
 use Rattle.ledger_model.specs.Pools.{is_among}
-use Rattle.ledger_model.specs.Applications.{same_bytes}
+use Rattle.ledger_model.specs.Values.{same_bytes}
 use Rattle.ledger_model.specs.Audits.{all_differ, are_of_a_quorum, AreReplays, own_sent, statements_in, accepts, is_unsent, unsent_in}
 use Rattle.ledger_model.specs.Audits.{NothingUnsent, AuditedHistoriesHaveLedger}
 use Rattle.ledger_model.proofs.Counting.{count_with}
@@ -99,10 +100,10 @@ quorum_fits config histories count =
     omega (arith, lacking config.replicas histories ends.1 parts.1)
 
 -- counted histories that replay are those of correct replicas
-pub are_correct : (config : Config) (ring : Ring) (histories : List History) → are_of_a_quorum config histories ≡ true
-    → AreReplays config ring histories → AreCorrect config ring histories
+pub are_correct : (meaning : Meanings) (config : Config) (ring : Ring) (histories : List History) → are_of_a_quorum config histories ≡ true
+    → AreReplays meaning config ring histories → AreCorrect meaning config ring histories
 unfolding Replay Follows
-are_correct config ring histories count replay =
+are_correct meaning config ring histories count replay =
     let parts = and_parts (nat_le config.replicas (length histories + config.faults)
     && list_all (λ (m : History). nat_lt m.replica config.replicas) histories)
     (all_differ (map (λ (m : History). m.replica) histories)) count
@@ -112,7 +113,7 @@ are_correct config ring histories count replay =
     let enough = leb-true config.replicas (length histories + config.faults) ends.0 in
     let rest = lacking config.replicas histories ends.1 parts.1 in
     record {
-      follows = λ r m found. replays_follow config ring r [] m.entries (replay r m found);
+      follows = λ r m found. replays_follow meaning config ring r [] m.entries (replay r m found);
       below = λ r is.
           let m = some_history (history_of histories r) is in
           let has = found_has (λ (x : History). nat_eq x.replica r) histories m.0 m.1 in
@@ -146,11 +147,11 @@ among_has texts text is =
     let any = any_has (same_bytes text) texts is in
     subst (Has texts) (sym (pointwise_equal nat_eq eqb-true text any.0 any.1.1)) any.1.0
 
-module _ (config : Config) (ring : Ring) (histories : List History) (replay : AreReplays config ring histories)
+module _ (meaning : Meanings) (config : Config) (ring : Ring) (histories : List History) (replay : AreReplays meaning config ring histories)
     (sent : NothingUnsent histories) where
-  lawful_history : (r : ℕ) (m : History) → history_of histories r ≡ Some m → Follows config ring r m.entries
+  lawful_history : (r : ℕ) (m : History) → history_of histories r ≡ Some m → Follows meaning config ring r m.entries
   unfolding Replay Follows
-  lawful_history r m found = replays_follow config ring r [] m.entries (replay r m found)
+  lawful_history r m found = replays_follow meaning config ring r [] m.entries (replay r m found)
 
   -- each statement that an entry accepts is among those that its signer's history sends
   accepted_sent : (r i : ℕ) (m : History) (e : Entry) → history_of histories r ≡ Some m → slice_get m.entries i ≡ Some e
@@ -176,7 +177,7 @@ module _ (config : Config) (ring : Ring) (histories : List History) (replay : Ar
       → (t : Statement) → Has (accepts e.event e.reply) t → FitsWidths t → Backed config histories t
   accepted_backed r i m e found at t has fits = λ is.
       let n = some_history (history_of histories (signer_of t)) is in
-      let note = own_note config ring (signer_of t) n.0.entries (lawful_history (signer_of t) n.0 n.1) (statement_bytes t)
+      let note = own_note meaning config ring (signer_of t) n.0.entries (lawful_history (signer_of t) n.0 n.1) (statement_bytes t)
       (accepted_sent r i m e found at t has n.0 n.1) in
       let same : note.made ≡ t = fitting_once note.made t note.fits fits note.spelled in
       let there : Has (log_of config (signer_of t) (height_of t) n.0.entries) (OwnStatement note.round t) =
@@ -197,7 +198,7 @@ module _ (config : Config) (ring : Ring) (histories : List History) (replay : Ar
     unfolding log_of
     made_backed front back e is h c s note signer height = λ _.
         let after : Has (log_of config r h (front ++ e ∷ [])) (OwnStatement c s.statement) =
-        subst (λ l. Has l (OwnStatement c s.statement)) (sym (log_of-snoc config ring r h [] front e))
+        subst (λ l. Has l (OwnStatement c s.statement)) (sym (log_of-snoc meaning config ring r h [] front e))
         (has_right (log_of config r h front) _ (OwnStatement c s.statement) note) in
         let in_end : Has (log_of config r h m.entries) (OwnStatement c s.statement) =
         subst (λ es. Has (log_of config r h es) (OwnStatement c s.statement)) (sym is)
@@ -211,7 +212,7 @@ module _ (config : Config) (ring : Ring) (histories : List History) (replay : Ar
 
     -- what one entry more reads is backed
     new_backed : (front back : List Entry) (e : Event) (a : Reply) → m.entries ≡ (front ++ record { event = e; reply = a } ∷ []) ++ back
-        → Follows config ring r front → Lawful config ring r front e a → FrontBacked front
+        → Follows meaning config ring r front → Lawful meaning config ring r front e a → FrontBacked front
         → (h c : ℕ) (s : SignedStatement) → Has (notes_of config r h (log_of config r h front) e a) (Read c s)
         → BackedWhole config histories s.statement
     unfolding notes_of
@@ -221,7 +222,7 @@ module _ (config : Config) (ring : Ring) (histories : List History) (replay : Ar
         let ok : answer_to config ring (log_of config r (height_of s.statement) front) s ≡ Ok u =
         subst (λ o. answer config ring r front o ≡ Ok u) (told.0) (sym lawful) in
         let read = (reading-reads config.frames bytes s told.0).0 in
-        let fits = accepted_fits config ring r front bytes s u follows read ok in
+        let fits = accepted_fits meaning config ring r front bytes s u follows read ok in
         let at : slice_get m.entries (length front) ≡ Some entry =
         ap (λ es. slice_get es (length front)) (is ∙ append_assoc front (entry ∷ []) back) ∙ get_seam front entry back in
         record {
@@ -263,12 +264,12 @@ module _ (config : Config) (ring : Ring) (histories : List History) (replay : Ar
     all_backed : FrontBacked m.entries
     unfolding log_of log_after
     all_backed =
-        each_entry config ring r (λ front. (back : List Entry) → m.entries ≡ front ++ back → FrontBacked front)
+        each_entry meaning config ring r (λ front. (back : List Entry) → m.entries ≡ front ++ back → FrontBacked front)
         (λ back is h c s has. absurd has)
         (λ front e next before lawful known back is h c s has.
         let shorter : m.entries ≡ front ++ (e ∷ back) = is ∙ append_assoc front (e ∷ []) back in
         elim (has_cases (log_of config r h front) _ (Read c s)
-        (subst (λ l. Has l (Read c s)) (log_of-snoc config ring r h [] front e) has)) [
+        (subst (λ l. Has l (Read c s)) (log_of-snoc meaning config ring r h [] front e) has)) [
           | inl old ↦ known (e ∷ back) shorter h c s old
           | inr new ↦ new_backed front back (e.event) (e.reply) is before lawful (known (e ∷ back) shorter) h c s new
         ]) m.entries (lawful_history r m found) [] (sym (append-nil m.entries))
@@ -281,5 +282,6 @@ module _ (config : Config) (ring : Ring) (histories : List History) (replay : Ar
 
 -- histories that are enough, replay and lack nothing are those of one ledger
 pub audited_histories_have_ledger : AuditedHistoriesHaveLedger
-audited_histories_have_ledger config ring histories count replay sent =
-    one_ledger config ring histories (are_correct config ring histories count replay) (reads_backed config ring histories replay sent)
+audited_histories_have_ledger meaning config ring histories count replay sent =
+    one_ledger meaning config ring histories (are_correct meaning config ring histories count replay)
+    (reads_backed meaning config ring histories replay sent)

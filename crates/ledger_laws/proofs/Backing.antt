@@ -1,4 +1,5 @@
 -- If nothing was forged, every statement that correct replicas read is backed.
+use Rattle.ledger_model.specs.Meanings.{Meanings}
 use Rattle.std.proofs.Common.{◌≡◌, ℕ, ◌+◌, ◌≤◌, Bool, true, false, not, ◌&&◌, cond, inl, inr, List, [], ◌∷◌, ◌++◌, map, refl, sym, ap}
 use Rattle.std.proofs.Common.{subst, ◌∙◌, append_assoc}
 use Rattle.std.specs.Prelude.{nat_eq, nat_lt, Option, Some, None, Ok, is_some}
@@ -146,7 +147,7 @@ none_retired true f d s (inl e) = cc
 none_retired true f d s (inr none) = none
 none_retired false f d s none = none
 
-module _ (config : Config) (ring : Ring) (correct : List ℕ) where
+module _ (meaning : Meanings) (config : Config) (ring : Ring) (correct : List ℕ) where
   pub log_at : (timeline : List Added) (h r : ℕ) → is_correct (histories_at correct timeline) r ≡ true
       → log_in config (histories_at correct timeline) h r ≡ log_of config r h (entries_at timeline r)
   log_at timeline h r is = ap (log_if config h r) (history_is correct timeline r is)
@@ -169,7 +170,7 @@ module _ (config : Config) (ring : Ring) (correct : List ℕ) where
         | inl here ↦
             let e : entries_at (front ++ a ∷ []) r ≡ entries_at front r ++ a.entry ∷ [] =
             es ∙ ap (λ b. entries_at front r ++ (cond b (a.entry ∷ []) [] ++ [])) here in
-            let snoc = log_of-snoc config ring r h [] (entries_at front r) a.entry in
+            let snoc = log_of-snoc meaning config ring r h [] (entries_at front r) a.entry in
             simp here (now ∙ ap (log_after config r h []) e ∙ snoc
             ∙ sym (ap (λ l. l ++ notes_of config r h l a.entry.event a.entry.reply) before))
         | inr other ↦
@@ -258,7 +259,8 @@ module _ (config : Config) (ring : Ring) (correct : List ℕ) where
   -- what an entry reads is backed after it
   pub new_read : (front : List Added) (a : Added) (h : ℕ) → ReadsBacked config (histories_at correct front) h
       → is_correct (histories_at correct front) a.replica ≡ true
-      → (e : Event) (r : Reply) → e ≡ a.entry.event → r ≡ a.entry.reply → Lawful config ring a.replica (entries_at front a.replica) e r
+      → (e : Event) (r : Reply) → e ≡ a.entry.event → r ≡ a.entry.reply
+      → Lawful meaning config ring a.replica (entries_at front a.replica) e r
       → AcceptsUnforged config ring (histories_at correct front) e r
       → (d : ℕ) (s : SignedStatement)
       → Has (notes_of config a.replica h (log_of config a.replica h (entries_at front a.replica)) e r) (Read d s)
@@ -294,7 +296,7 @@ module _ (config : Config) (ring : Ring) (correct : List ℕ) where
   -- all that is read stays backed as the run goes on
   pub backed_step : (front : List Added) (a : Added) → ((h : ℕ) → ReadsBacked config (histories_at correct front) h)
       → is_correct (histories_at correct front) a.replica ≡ true
-      → Lawful config ring a.replica (entries_at front a.replica) a.entry.event a.entry.reply
+      → Lawful meaning config ring a.replica (entries_at front a.replica) a.entry.event a.entry.reply
       → AcceptsUnforged config ring (histories_at correct front) a.entry.event a.entry.reply
       → (h : ℕ) → ReadsBacked config (histories_at correct (front ++ a ∷ [])) h
   backed_step front a backed is lawful unforged h r c s correct_r has =
@@ -319,21 +321,21 @@ module _ (config : Config) (ring : Ring) (correct : List ℕ) where
         ]
       ]
 
-module _ (config : Config) (ring : Ring) (correct : List ℕ) (replicas : AreReplicas config correct) where
+module _ (meaning : Meanings) (config : Config) (ring : Ring) (correct : List ℕ) (replicas : AreReplicas config correct) where
   -- how far a run has come: each correct history is lawful, and what was read is backed
   pub record Reached (front : List Added) : Type 0 where
-    pub follows : (r : ℕ) → Follows config ring r (entries_at front r)
+    pub follows : (r : ℕ) → Follows meaning config ring r (entries_at front r)
     pub backed : (h : ℕ) → ReadsBacked config (histories_at correct front) h
 
   pub nothing_yet : Reached []
   unfolding Follows FollowsFrom log_of log_after
   nothing_yet = record {
     follows = λ r. tt;
-    backed = λ h r c s is has. absurd (subst (λ l. Has l (Read c s)) (log_at config ring correct [] h r is) has);
+    backed = λ h r c s is has. absurd (subst (λ l. Has l (Read c s)) (log_at meaning config ring correct [] h r is) has);
   }
 
   pub next : (front : List Added) (a : Added) → Reached front → is_correct (histories_at correct front) a.replica ≡ true
-      → Lawful config ring a.replica (entries_at front a.replica) a.entry.event a.entry.reply
+      → Lawful meaning config ring a.replica (entries_at front a.replica) a.entry.event a.entry.reply
       → AcceptsUnforged config ring (histories_at correct front) a.entry.event a.entry.reply → Reached (front ++ a ∷ [])
   unfolding Follows
   next front a reached is lawful unforged = record {
@@ -344,18 +346,18 @@ module _ (config : Config) (ring : Ring) (correct : List ℕ) (replicas : AreRep
               let same : a.replica ≡ r = eqb-true (a.replica) r here in
               let e : entries_at (front ++ a ∷ []) r ≡ entries_at front r ++ a.entry ∷ [] =
               es ∙ ap (λ b. entries_at front r ++ (cond b (a.entry ∷ []) [] ++ [])) here in
-              let lawful_r = subst (λ x. Lawful config ring x (entries_at front x) a.entry.event a.entry.reply) same lawful in
-              subst (FollowsFrom config ring r []) (sym e)
-              (follows_snoc config ring r [] (entries_at front r) (a.entry) (reached.follows r) lawful_r)
+              let lawful_r = subst (λ x. Lawful meaning config ring x (entries_at front x) a.entry.event a.entry.reply) same lawful in
+              subst (FollowsFrom meaning config ring r []) (sym e)
+              (follows_snoc meaning config ring r [] (entries_at front r) (a.entry) (reached.follows r) lawful_r)
           | inr other ↦
               let e : entries_at (front ++ a ∷ []) r ≡ entries_at front r ++ [] =
               es ∙ ap (λ b. entries_at front r ++ (cond b (a.entry ∷ []) [] ++ [])) other in
-              subst (FollowsFrom config ring r []) (sym (e ∙ append-nil (entries_at front r))) (reached.follows r)
+              subst (FollowsFrom meaning config ring r []) (sym (e ∙ append-nil (entries_at front r))) (reached.follows r)
         ];
-    backed = backed_step config ring correct front a (reached.backed) is lawful unforged;
+    backed = backed_step meaning config ring correct front a (reached.backed) is lawful unforged;
   }
 
-  pub reached : (front more : List Added) → Reached front → RunsFrom config ring correct front more
+  pub reached : (front more : List Added) → Reached front → RunsFrom meaning config ring correct front more
       → UnforgedFrom config ring correct front more
       → (mid back : List Added) → more ≡ mid ++ back → Reached (front ++ mid)
   unfolding RunsFrom UnforgedFrom
@@ -368,23 +370,23 @@ module _ (config : Config) (ring : Ring) (correct : List ℕ) (replicas : AreRep
       subst Reached (ap (λ y. front ++ y ∷ mid) first)
       (subst Reached (append_assoc front (x ∷ []) mid) (reached (front ++ x ∷ []) more now (runs.2) (unforged.1) mid back rest))
 
-  pub are_correct : (front : List Added) → Reached front → AreCorrect config ring (histories_at correct front)
+  pub are_correct : (front : List Added) → Reached front → AreCorrect meaning config ring (histories_at correct front)
   are_correct front r = record {
     follows = λ x m at.
         let same : its_history front x ≡ m = same_Some (its_history front x) m (sym (history_is correct front x (ap is_some at)) ∙ at) in
-        subst (λ (n : History). Follows config ring x n.entries) same (r.follows x);
+        subst (λ (n : History). Follows meaning config ring x n.entries) same (r.follows x);
     below = λ x is. replicas.below x (sym (correct_at correct front x) ∙ is);
     enough = subst (λ n. n ≤ config.faults)
         (sym (count_same (λ x. not (is_correct (histories_at correct front) x)) (λ x. not (list_any (λ y. nat_eq y x) correct))
         (λ x. ap not (correct_at correct front x)) 0 (config.replicas))) (replicas.enough);
   }
 
-  pub refines : (timeline : List Added) → RunsFrom config ring correct [] timeline → UnforgedFrom config ring correct [] timeline
-      → RefinesLedger config correct timeline
+  pub refines : (timeline : List Added) → RunsFrom meaning config ring correct [] timeline → UnforgedFrom config ring correct [] timeline
+      → RefinesLedger meaning config correct timeline
   refines timeline runs unforged = record {
     is_ledger = λ front back is.
         let r = reached [] timeline nothing_yet runs unforged front back is in
-        one_ledger config ring (histories_at correct front) (are_correct front r) (r.backed);
+        one_ledger meaning config ring (histories_at correct front) (are_correct front r) (r.backed);
     grows = λ front back a ledger later is ledger_is later_is.
         let r = reached [] timeline nothing_yet runs unforged (front ++ a ∷ []) back (is ∙ sym (append_assoc front (a ∷ []) back)) in
         let from = ledger_is.some in
@@ -397,10 +399,11 @@ module _ (config : Config) (ring : Ring) (correct : List ℕ) (replicas : AreRep
         let es = entries_at-append front (a ∷ []) x in
         let grow : Begins (commits_of config x (entries_at front x)) (commits_of config x (entries_at (front ++ a ∷ []) x)) =
         subst (λ xs. Begins (commits_of config x (entries_at front x)) (commits_of config x xs)) (sym es)
-        (commits_grow config ring x (entries_at front x) (entries_at (a ∷ []) x) (subst (Follows config ring x) es (r.follows x))) in
+        (commits_grow meaning config ring x (entries_at front x) (entries_at (a ∷ []) x)
+        (subst (Follows meaning config ring x) es (r.follows x))) in
         let there : Begins (commits_of config x (entries_at (front ++ a ∷ []) x)) later =
         later_is.each x (its_history (front ++ a ∷ []) x)
-        (history_is correct (front ++ a ∷ []) x (same_correct config ring correct (front ++ a ∷ []) front x ∙ is_x)) in
+        (history_is correct (front ++ a ∷ []) x (same_correct meaning config ring correct (front ++ a ∷ []) front x ∙ is_x)) in
         subst (λ xs. Begins xs later) (sym ledger_x)
         (begins_trans (commits_of config x (entries_at front x)) (commits_of config x (entries_at (front ++ a ∷ []) x)) later grow
         there);

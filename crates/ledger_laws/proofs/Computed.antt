@@ -15,7 +15,8 @@ use Rattle.ledger_model.specs.Reading.{reading_in, body_reading, statement_at, r
 use Rattle.ledger_model.specs.Reading.{lock_at, proof_at, signed_at, place_at, positive_at}
 use Rattle.ledger_model.specs.Reading.{flag_at, value_at, txs_at, tx_at, list_at, values_at, signature_at}
 use Rattle.ledger_model.specs.Signatures.{coef, checksum}
-use Rattle.ledger_model.specs.Applications.{codes, code_after, check_after, accepted, held_at}
+use Rattle.ledger_model.specs.Meanings.{accepted_by, codes_by}
+use Rattle.ledger_model.specs.Kinds.{store, counter, purse}
 use Rattle.ledger_model.specs.Replies.{check_reply, query_reply}
 use Rattle.ledger_model.specs.Commits.{submit_reply, propose_reply, execute_reply, commits_of, floor_of, pool_of, pool_after}
 use Rattle.ledger_model.specs.Logs.{log_of, log_after, notes_of, statements_made, statements_sent, own_ack}
@@ -72,20 +73,20 @@ unfolding checksum coef
 digits_and_checksums = (refl, refl, refl, refl)
 
 pub counter_counts : CounterCounts
-unfolding codes code_after query_reply accepted held_at
+unfolding codes_by counter query_reply accepted_by
 counter_counts = (refl, refl)
 
 pub counter_checks : CounterChecks
-unfolding check_reply check_after accepted code_after
+unfolding check_reply counter accepted_by
 counter_checks = (refl, refl, refl)
 
 pub purse_pays : PursePays
-unfolding codes code_after query_reply accepted held_at
+unfolding codes_by purse query_reply accepted_by
 purse_pays = (refl, refl)
 
 pub first_entries_replay : FirstEntriesReplay
-unfolding Replay ReplaysFrom submit_reply propose_reply execute_reply commits_of floor_of pool_of pool_after check_reply check_after
-    accepted log_of log_after notes_of decided_of
+unfolding Replay ReplaysFrom submit_reply propose_reply execute_reply commits_of floor_of pool_of pool_after check_reply store
+    accepted_by log_of log_after notes_of decided_of
 first_entries_replay = (refl, refl, (refl, refl, (refl, refl, (refl, refl, (refl, refl, (refl, refl, tt))))))
 
 pub own_listing_is_no_others : OwnListingIsNoOthers
@@ -124,7 +125,7 @@ round_entries_replay = (
 )
 
 pub world_runs : WorldRuns
-unfolding Runs event_of frames_sent submit_reply commits_of pool_of pool_after check_reply check_after accepted reading_in
+unfolding Runs event_of frames_sent submit_reply commits_of pool_of pool_after check_reply store accepted_by reading_in
 world_runs = (
   start,
   (refl, refl),

@@ -1,4 +1,5 @@
 -- The histories of correct replicas, however far each has come, have one ledger.
+use Rattle.ledger_model.specs.Meanings.{Meanings}
 use Rattle.std.proofs.Common.{◌≡◌, ℕ, zero, suc, ◌+◌, ◌<◌, ◌≤◌, Bool, true, false, not, cond, inl, inr, List, [], ◌∷◌, ◌++◌, length, take}
 use Rattle.std.proofs.Common.{refl, sym, ap, subst, ◌∙◌, append_assoc, arith}
 use Rattle.std.specs.Prelude.{nat_eq, Option, Some, None, Result, Ok, Err, is_some, slice_get}
@@ -35,17 +36,17 @@ use Rattle.ledger_model.proofs.Lists.{get_take}
 use Rattle.ledger_laws.proofs.Agreement.{one_decision}
 
 -- of two correct replicas, what the one committed begins what the other did
-pub commits_agree : (config : Config) (ring : Ring) (histories : List History) (r q : ℕ) (m n : History)
-    → AreCorrect config ring histories → ((h : ℕ) → ReadsBacked config histories h)
+pub commits_agree : (meaning : Meanings) (config : Config) (ring : Ring) (histories : List History) (r q : ℕ) (m n : History)
+    → AreCorrect meaning config ring histories → ((h : ℕ) → ReadsBacked config histories h)
     → history_of histories r ≡ Some m → history_of histories q ≡ Some n
     → length (commits_of config r m.entries) ≤ length (commits_of config q n.entries)
     → take (length (commits_of config r m.entries)) (commits_of config q n.entries) ≡ commits_of config r m.entries
 unfolding commits_of
-commits_agree config ring histories r q m n correct backed is_m is_n shorter =
-    let all_m = all_decided config ring r (m.entries) (correct.follows r m is_m) in
-    let all_n = all_decided config ring q (n.entries) (correct.follows q n is_n) in
+commits_agree meaning config ring histories r q m n correct backed is_m is_n shorter =
+    let all_m = all_decided meaning config ring r (m.entries) (correct.follows r m is_m) in
+    let all_n = all_decided meaning config ring q (n.entries) (correct.follows q n is_n) in
     let le : executed m.entries ≤ executed n.entries =
-    omega (arith, length-commits config ring r (m.entries) all_m, length-commits config ring q (n.entries) all_n) in
+    omega (arith, length-commits meaning config ring r (m.entries) all_m, length-commits meaning config ring q (n.entries) all_n) in
     begins_range (decided_at config r m.entries) (decided_at config q n.entries) 1 (executed m.entries) (executed n.entries) le
     (λ i low high.
     let v = some_value (decided_at config r m.entries i) (all_m i low high) in
@@ -54,7 +55,8 @@ commits_agree config ring histories r q m n correct backed is_m is_n shorter =
     ap (λ o. decided_of config (log_if config i r o)) is_m ∙ v.1 in
     let decided_q : decided_of config (log_in config histories i q) ≡ Some (w.0) =
     ap (λ o. decided_of config (log_if config i q o)) is_n ∙ w.1 in
-    let same : v.0 ≡ w.0 = one_decision config ring histories correct i (backed i) r q (ap is_some is_m) (ap is_some is_n) (v.0) (w.0)
+    let same : v.0 ≡ w.0 = one_decision meaning config ring histories correct i (backed i) r q (ap is_some is_m) (ap is_some is_n) (v.0)
+    (w.0)
     decided_r decided_q in
     (v.0, (v.1, w.1 ∙ ap Some (sym same))))
 
@@ -86,20 +88,21 @@ get_range D a (suc m) (suc i) all lt =
     simp (first.1) (rest ∙ same)
 
 -- an entry of a lawful history is lawful after those before it
-pub lawful_at : (config : Config) (ring : Ring) (id : ℕ) (front es : List Entry) (i : ℕ) (e : Entry) → FollowsFrom config ring id front es
+pub lawful_at : (meaning : Meanings) (config : Config) (ring : Ring) (id : ℕ) (front es : List Entry) (i : ℕ) (e : Entry)
+    → FollowsFrom meaning config ring id front es
     → slice_get es i ≡ Some e
-    → Lawful config ring id (front ++ take i es) e.event e.reply × ((rest : List Entry) × (es ≡ (take i es ++ e ∷ []) ++ rest))
+    → Lawful meaning config ring id (front ++ take i es) e.event e.reply × ((rest : List Entry) × (es ≡ (take i es ++ e ∷ []) ++ rest))
 unfolding FollowsFrom
-lawful_at config ring id front [] i e follows at = cc
-lawful_at config ring id front (x ∷ xs) zero e follows at =
+lawful_at meaning config ring id front [] i e follows at = cc
+lawful_at meaning config ring id front (x ∷ xs) zero e follows at =
     let same : x ≡ e = cc in (
-      subst (λ es. Lawful config ring id es e.event e.reply) (sym (append-nil front))
-          (subst (λ (y : Entry). Lawful config ring id front y.event y.reply) same (follows.0)),
+      subst (λ es. Lawful meaning config ring id es e.event e.reply) (sym (append-nil front))
+          (subst (λ (y : Entry). Lawful meaning config ring id front y.event y.reply) same (follows.0)),
       (xs, ap (λ y. y ∷ xs) same),
     )
-lawful_at config ring id front (x ∷ xs) (suc i) e follows at =
-    let r = lawful_at config ring id (front ++ x ∷ []) xs i e (follows.1) at in (
-      subst (λ es. Lawful config ring id es e.event e.reply) (append_assoc front (x ∷ []) (take i xs)) (r.0),
+lawful_at meaning config ring id front (x ∷ xs) (suc i) e follows at =
+    let r = lawful_at meaning config ring id (front ++ x ∷ []) xs i e (follows.1) at in (
+      subst (λ es. Lawful meaning config ring id es e.event e.reply) (append_assoc front (x ∷ []) (take i xs)) (r.0),
       (r.1.0, ap (λ ys. x ∷ ys) (r.1.1)),
     )
 
@@ -120,13 +123,13 @@ first_code_is code false false true b4 c e = absurd (cc)
 first_code_is code false false false true c e = absurd (cc)
 first_code_is code false false false false c e = last_code code (not (nat_eq c 0)) c refl e
 
-pub rejected_code : (config : Config) (id : ℕ) (entries : List Entry) (tx : List ℕ) (code : ℕ)
-    → Err (refusal.Rejected code) ≡ submit_reply config id entries tx
-    → (code ≡ check_reply config.kind (commits_of config id entries) tx) × (not (nat_eq code 0) ≡ true)
+pub rejected_code : (meaning : Meanings) (config : Config) (id : ℕ) (entries : List Entry) (tx : List ℕ) (code : ℕ)
+    → Err (refusal.Rejected code) ≡ submit_reply meaning config id entries tx
+    → (code ≡ check_reply meaning config.kind (commits_of config id entries) tx) × (not (nat_eq code 0) ≡ true)
 unfolding submit_reply
-rejected_code config id entries tx code e =
-    first_code_is code (nat_eq (length tx) 0) (ltb 64 (length tx)) (is_among (pool_of config id entries) tx)
-    (leb 1024 (length (pool_of config id entries))) (check_reply config.kind (commits_of config id entries) tx) e
+rejected_code meaning config id entries tx code e =
+    first_code_is code (nat_eq (length tx) 0) (ltb 64 (length tx)) (is_among (pool_of meaning config id entries) tx)
+    (leb 1024 (length (pool_of meaning config id entries))) (check_reply meaning config.kind (commits_of config id entries) tx) e
 
 -- the code of a taken transaction is 0
 last_code_taken : (u : Unit {0}) (c : ℕ) (b : Bool) → not (nat_eq c 0) ≡ b
@@ -145,50 +148,53 @@ first_code_taken u false false true b4 c e = cc
 first_code_taken u false false false true c e = cc
 first_code_taken u false false false false c e = last_code_taken u c (not (nat_eq c 0)) refl e
 
-pub taken_code : (config : Config) (id : ℕ) (entries : List Entry) (tx : List ℕ) (u : Unit {0})
-    → Ok u ≡ submit_reply config id entries tx → check_reply config.kind (commits_of config id entries) tx ≡ 0
+pub taken_code : (meaning : Meanings) (config : Config) (id : ℕ) (entries : List Entry) (tx : List ℕ) (u : Unit {0})
+    → Ok u ≡ submit_reply meaning config id entries tx → check_reply meaning config.kind (commits_of config id entries) tx ≡ 0
 unfolding submit_reply
-taken_code config id entries tx u e =
-    first_code_taken u (nat_eq (length tx) 0) (ltb 64 (length tx)) (is_among (pool_of config id entries) tx)
-    (leb 1024 (length (pool_of config id entries))) (check_reply config.kind (commits_of config id entries) tx) e
+taken_code meaning config id entries tx u e =
+    first_code_taken u (nat_eq (length tx) 0) (ltb 64 (length tx)) (is_among (pool_of meaning config id entries) tx)
+    (leb 1024 (length (pool_of meaning config id entries))) (check_reply meaning config.kind (commits_of config id entries) tx) e
 
-pub ran_block : (config : Config) (batches : List Value) (o : Option Value) (b : BlockResult) → Ok b ≡ block_of config batches o
-    → (v : Value) × ((o ≡ Some v) × (b ≡ block_reply config.kind batches v))
-ran_block config batches None b e = cc
-ran_block config batches (Some v) b e = (v, (refl, cc))
+pub ran_block : (meaning : Meanings) (config : Config) (batches : List Value) (o : Option Value) (b : BlockResult)
+    → Ok b ≡ block_of meaning config batches o
+    → (v : Value) × ((o ≡ Some v) × (b ≡ block_reply meaning config.kind batches v))
+ran_block meaning config batches None b e = cc
+ran_block meaning config batches (Some v) b e = (v, (refl, cc))
 
-module _ (config : Config) (ring : Ring) (id : ℕ) (entries : List Entry) (follows : Follows config ring id entries) where
+module _ (meaning : Meanings) (config : Config) (ring : Ring) (id : ℕ) (entries : List Entry)
+    (follows : Follows meaning config ring id entries) where
   -- the history up to a place, and its entry there
   pub record At (i : ℕ) (e : Entry) : Type 0 where
-    pub lawful : Lawful config ring id (take i entries) e.event e.reply
+    pub lawful : Lawful meaning config ring id (take i entries) e.event e.reply
     pub rest : List Entry
     pub is : entries ≡ (take i entries ++ e ∷ []) ++ rest
 
   pub entry_at : (i : ℕ) (e : Entry) → slice_get entries i ≡ Some e → At i e
   unfolding Follows
-  entry_at i e at = let r = lawful_at config ring id [] entries i e follows at in record { lawful = r.0; rest = r.1.0; is = r.1.1 }
+  entry_at i e at = let r = lawful_at meaning config ring id [] entries i e follows at in record { lawful = r.0; rest = r.1.0; is = r.1.1 }
 
   -- what is committed after an entry begins what is committed in the end, and so does what was before it
   pub after_entry : (i : ℕ) (e : Entry) → At i e → Begins (commits_of config id (take i entries ++ e ∷ [])) (commits_of config id entries)
   after_entry i e p =
       subst (λ es. Begins (commits_of config id (take i entries ++ e ∷ [])) (commits_of config id es)) (sym (p.is))
-      (commits_grow config ring id (take i entries ++ e ∷ []) (p.rest) (subst (Follows config ring id) (p.is) follows))
+      (commits_grow meaning config ring id (take i entries ++ e ∷ []) (p.rest) (subst (Follows meaning config ring id) (p.is) follows))
 
-  pub front_follows : (i : ℕ) (e : Entry) → At i e → Follows config ring id (take i entries ++ e ∷ [])
+  pub front_follows : (i : ℕ) (e : Entry) → At i e → Follows meaning config ring id (take i entries ++ e ∷ [])
   unfolding Follows
-  front_follows i e p = follows_front config ring id [] (take i entries ++ e ∷ []) (p.rest) (subst (Follows config ring id) (p.is) follows)
+  front_follows i e p = follows_front meaning config ring id [] (take i entries ++ e ∷ []) (p.rest)
+      (subst (Follows meaning config ring id) (p.is) follows)
 
   pub before_entry : (i : ℕ) (e : Entry) → At i e → Begins (commits_of config id (take i entries)) (commits_of config id entries)
   before_entry i e p =
       begins_trans (commits_of config id (take i entries)) (commits_of config id (take i entries ++ e ∷ [])) (commits_of config id entries)
-      (commits_grow config ring id (take i entries) (e ∷ []) (front_follows i e p)) (after_entry i e p)
+      (commits_grow meaning config ring id (take i entries) (e ∷ []) (front_follows i e p)) (after_entry i e p)
 
-  pub taken_follows : (i : ℕ) (e : Entry) → At i e → Follows config ring id (take i entries)
+  pub taken_follows : (i : ℕ) (e : Entry) → At i e → Follows meaning config ring id (take i entries)
   unfolding Follows
-  taken_follows i e p = follows_front config ring id [] (take i entries) (e ∷ []) (front_follows i e p)
+  taken_follows i e p = follows_front meaning config ring id [] (take i entries) (e ∷ []) (front_follows i e p)
 
   -- the i-th batch that was committed is the decided one of its height
-  pub get_commits : (es : List Entry) (i : ℕ) → AllDecided config ring id es → i < executed es
+  pub get_commits : (es : List Entry) (i : ℕ) → AllDecided meaning config ring id es → i < executed es
       → slice_get (commits_of config id es) i ≡ decided_at config id es (i + 1)
   unfolding commits_of
   get_commits es i all lt = get_range (decided_at config id es) 1 (executed es) i all lt ∙ ap (decided_at config id es) (omega arith)
@@ -196,45 +202,46 @@ module _ (config : Config) (ring : Ring) (id : ℕ) (entries : List Entry) (foll
   -- each reply of the application is that on what was committed when it was given
   pub reply_on : (ledger : List Value) → Begins (commits_of config id entries) ledger → (i : ℕ) (e : Event) (r : Reply)
       → At i (record { event = e; reply = r })
-      → IsReplyOn config ledger (length (commits_of config id (take i entries))) e r
+      → IsReplyOn meaning config ledger (length (commits_of config id (take i entries))) e r
   unfolding execute_reply
   reply_on ledger begins i event.Execute (reply.Executed (Ok b)) p =
       let entry : Entry = record { event = event.Execute; reply = reply.Executed (Ok b) } in
       let front : List Entry = take i entries in
-      let ran = ran_block config (commits_of config id front) (decided_at config id front (length (commits_of config id front) + 1)) b
+      let ran = ran_block meaning config (commits_of config id front)
+      (decided_at config id front (length (commits_of config id front) + 1)) b
       (p.lawful) in
       let v = ran.0 in
-      let all : AllDecided config ring id (front ++ entry ∷ []) =
-      all_decided config ring id (front ++ entry ∷ []) (front_follows i entry p) in
-      let size = length-commits config ring id front (all_decided config ring id front (taken_follows i entry p)) in
+      let all : AllDecided meaning config ring id (front ++ entry ∷ []) =
+      all_decided meaning config ring id (front ++ entry ∷ []) (front_follows i entry p) in
+      let size = length-commits meaning config ring id front (all_decided meaning config ring id front (taken_follows i entry p)) in
       let one = executed-append front (entry ∷ []) in
       let at_end : slice_get (commits_of config id (front ++ entry ∷ [])) (length (commits_of config id front)) ≡ Some v =
       get_commits (front ++ entry ∷ []) (length (commits_of config id front)) all (omega (arith, size, one))
       ∙ decision_stays config id (length (commits_of config id front) + 1) front (entry ∷ []) v (ran.1.0) in
       let shorter : length (commits_of config id front) < length (commits_of config id (front ++ entry ∷ [])) =
-      omega (arith, size, one, length-commits config ring id (front ++ entry ∷ []) all) in
+      omega (arith, size, one, length-commits meaning config ring id (front ++ entry ∷ []) all) in
       let there = begins_get (commits_of config id (front ++ entry ∷ [])) ledger (length (commits_of config id front))
       (begins_trans (commits_of config id (front ++ entry ∷ [])) (commits_of config id entries) ledger (after_entry i entry p) begins)
       shorter ∙ at_end in
       let same : take (length (commits_of config id front)) ledger ≡ commits_of config id front =
       begins_trans (commits_of config id front) (commits_of config id entries) ledger (before_entry i entry p) begins in
-      (v, there, subst (λ vs. b ≡ block_reply config.kind vs v) (sym same) (ran.1.1))
+      (v, there, subst (λ vs. b ≡ block_reply meaning config.kind vs v) (sym same) (ran.1.1))
   reply_on ledger begins i (event.Query key h) (reply.Queried r) p =
       let entry : Entry = record { event = event.Query key h; reply = reply.Queried r } in
       let same = begins_trans (commits_of config id (take i entries)) (commits_of config id entries) ledger (before_entry i entry p) begins
       in
-      subst (λ vs. r ≡ query_reply config.kind vs key h) (sym same) (p.lawful)
+      subst (λ vs. r ≡ query_reply meaning config.kind vs key h) (sym same) (p.lawful)
   reply_on ledger begins i (event.Submit tx) (reply.Submitted (Err (refusal.Rejected code))) p =
       let entry : Entry = record { event = event.Submit tx; reply = reply.Submitted (Err (refusal.Rejected code)) } in
       let same = begins_trans (commits_of config id (take i entries)) (commits_of config id entries) ledger (before_entry i entry p) begins
       in
-      subst (λ vs. (code ≡ check_reply config.kind vs tx) × (not (nat_eq code 0) ≡ true)) (sym same)
-      (rejected_code config id (take i entries) tx code (p.lawful))
+      subst (λ vs. (code ≡ check_reply meaning config.kind vs tx) × (not (nat_eq code 0) ≡ true)) (sym same)
+      (rejected_code meaning config id (take i entries) tx code (p.lawful))
   reply_on ledger begins i (event.Submit tx) (reply.Submitted (Ok u)) p =
       let entry : Entry = record { event = event.Submit tx; reply = reply.Submitted (Ok u) } in
       let same = begins_trans (commits_of config id (take i entries)) (commits_of config id entries) ledger (before_entry i entry p) begins
       in
-      subst (λ vs. check_reply config.kind vs tx ≡ 0) (sym same) (taken_code config id (take i entries) tx u (p.lawful))
+      subst (λ vs. check_reply meaning config.kind vs tx ≡ 0) (sym same) (taken_code meaning config id (take i entries) tx u (p.lawful))
   reply_on ledger begins i e r p = tt
 
 -- the correct replica that committed most
@@ -316,8 +323,9 @@ pub some_history : (o : Option History) → is_some o ≡ true → (m : History)
 some_history (Some m) is = (m, refl)
 some_history None is = cc
 
-pub longest : (config : Config) (ring : Ring) (histories : List History) → AreCorrect config ring histories → Longest config histories
-longest config ring histories correct =
+pub longest : (meaning : Meanings) (config : Config) (ring : Ring) (histories : List History) → AreCorrect meaning config ring histories
+    → Longest config histories
+longest meaning config ring histories correct =
     let few = config.enough in
     let one = some_of (λ r. true) (is_correct histories) (config.replicas) (config.faults) (omega (arith, count_all 0 (config.replicas)))
     (correct.enough) in
@@ -333,29 +341,30 @@ longest config ring histories correct =
     }
 
 -- the histories of correct replicas are those of one ledger
-pub one_ledger : (config : Config) (ring : Ring) (histories : List History) → AreCorrect config ring histories
-    → ((h : ℕ) → ReadsBacked config histories h) → (ledger : List Value) × IsLedger config histories ledger
-one_ledger config ring histories correct backed =
-    let best = longest config ring histories correct in
+pub one_ledger : (meaning : Meanings) (config : Config) (ring : Ring) (histories : List History) → AreCorrect meaning config ring histories
+    → ((h : ℕ) → ReadsBacked config histories h) → (ledger : List Value) × IsLedger meaning config histories ledger
+one_ledger meaning config ring histories correct backed =
+    let best = longest meaning config ring histories correct in
     let r = best.replica in
     let m = best.history in
     let ledger : List Value = commits_of config r m.entries in
     let each : (q : ℕ) (n : History) → history_of histories q ≡ Some n → Begins (commits_of config q n.entries) ledger =
-    λ q n at. commits_agree config ring histories q r n m correct backed at (best.is) (best.most q n at) in (
+    λ q n at. commits_agree meaning config ring histories q r n m correct backed at (best.is) (best.most q n at) in (
       ledger,
       record {
         some = (r, (m, (best.is, refl)));
         each = each;
         replies = λ q i n e at there.
             let follows = correct.follows q n at in
-            reply_on config ring q (n.entries) follows ledger (each q n at) i (e.event) (e.reply)
-            (entry_at config ring q (n.entries) follows i e there);
+            reply_on meaning config ring q (n.entries) follows ledger (each q n at) i (e.event) (e.reply)
+            (entry_at meaning config ring q (n.entries) follows i e there);
         common = λ h v w common there.
             let follows = correct.follows r m (best.is) in
-            let all = all_decided config ring r (m.entries) follows in
-            let lt : h < executed m.entries = omega (arith, get_lt ledger h w there, length-commits config ring r (m.entries) all) in
-            let decided = sym (get_commits config ring r (m.entries) follows (m.entries) h all lt) ∙ there in
-            decided_common config ring histories correct (h + 1) (backed (h + 1)) v common r (ap is_some (best.is)) w
+            let all = all_decided meaning config ring r (m.entries) follows in
+            let lt : h < executed m.entries = omega (arith, get_lt ledger h w there, length-commits meaning config ring r (m.entries) all)
+            in
+            let decided = sym (get_commits meaning config ring r (m.entries) follows (m.entries) h all lt) ∙ there in
+            decided_common meaning config ring histories correct (h + 1) (backed (h + 1)) v common r (ap is_some (best.is)) w
             (ap (λ o. decided_of config (log_if config (h + 1) r o)) (best.is) ∙ decided);
       },
     )

@@ -1,4 +1,5 @@
 -- The run that locks, decides and commits is lawful.
+use Rattle.ledger_model.specs.Kinds.{meaning_of}
 use Rattle.std.proofs.Common.{◌≡◌, ℕ, ◌+◌, ◌<◌, ◌≤◌, ◌&&◌, true, false, inl, inr, List, [], ◌∷◌, ◌++◌, refl, sym, ap, subst, ◌∙◌}
 use Rattle.std.proofs.Common.{append-nil, lit≤, lit<, arith, Result, is_some}
 use Rattle.std.specs.Prelude.{nat_eq, Some, None, Ok, map, IsTrue, filter, if◌then◌else◌}
@@ -23,7 +24,7 @@ use Rattle.ledger_model.specs.Reading.{reading, reading_in}
 use Rattle.ledger_model.specs.declared.statement.SignedReport.{SignedReport}
 use Rattle.ledger_model.specs.Commits.{commits_of, pool_of, pool_after, floor_of, submit_reply, propose_reply, execute_reply, block_of}
 use Rattle.ledger_model.specs.Replies.{check_reply}
-use Rattle.ledger_model.specs.Applications.{check_after}
+use Rattle.ledger_model.specs.Kinds.{store}
 use Rattle.ledger_model.specs.Notes.{Has, initial_of, is_lock, Note, Proposed, Round, OwnStatement, Read, clock_of, open_of, version_of}
 use Rattle.ledger_model.specs.Logs.{is_mute, height_of, if_some, made_notes, statements_sent, statements_made, own_ack, notes_of, log_of, log_after}
 use Rattle.ledger_model.specs.Rules.{Ring, with_signature, MayMake, report_of, causes, answer_to}
@@ -183,7 +184,7 @@ module _ (id : ℕ) (front : List Entry) (log other : List Note) (frames : List 
 -- a frame that passes every test is accepted lawfully
 lawful_accept : (ring : Ring) (id : ℕ) (front : List Entry) (s : SignedStatement) (log other : List Note) → IsFrameIn One s
     → height_of s.statement ≡ 1 → Logs id front log other → ◌≡◌ {A = Result (Unit {0}) Ignored} (Ok tt) (answer_to K ring log s)
-    → Lawful K ring id front (event.Deliver (frame_bytes s)) (reply.Delivered (Ok tt))
+    → Lawful meaning_of K ring id front (event.Deliver (frame_bytes s)) (reply.Delivered (Ok tt))
 lawful_accept ring id front s log other is height at ok =
     ok ∙ ap (λ l. answer_to K ring l s) (sym at.here) ∙ ap (λ n. answer_to K ring (log_of K id n front) s) (sym height)
     ∙ ap (answer K ring id front) (sym (read_one s is))
@@ -435,19 +436,19 @@ module _ (ring : Ring) (sign : Signing) (are : AreSendable ring sign) where
 
   -- ---- the owner's history is lawful
 
-  runs_a : Lawful K ring 1 entries_after_end event.Execute (reply.Executed (Ok (first_result a)))
+  runs_a : Lawful meaning_of K ring 1 entries_after_end event.Execute (reply.Executed (Ok (first_result a)))
   unfolding execute_reply commits_of decided_of
-  runs_a = ap (λ l. block_of K [] (decided_of K l)) (sym decided.here)
+  runs_a = ap (λ l. block_of meaning_of K [] (decided_of K l)) (sym decided.here)
 
-  submits_a : (id : ℕ) → Lawful K ring id [] (event.Submit tx_a) (reply.Submitted (Ok tt))
-  unfolding submit_reply commits_of pool_of pool_after check_reply check_after
+  submits_a : (id : ℕ) → Lawful meaning_of K ring id [] (event.Submit tx_a) (reply.Submitted (Ok tt))
+  unfolding submit_reply commits_of pool_of pool_after check_reply store
   submits_a id = refl
 
-  proposes_a : (id : ℕ) → Lawful K ring id (takes tx_a ∷ []) (event.Propose 1) (reply.Proposed (Ok a))
+  proposes_a : (id : ℕ) → Lawful meaning_of K ring id (takes tx_a ∷ []) (event.Propose 1) (reply.Proposed (Ok a))
   unfolding propose_reply commits_of pool_of pool_after floor_of log_of log_after notes_of
   proposes_a id = refl
 
-  pub owner_follows : Follows K ring 1 (owner_entries sign)
+  pub owner_follows : Follows meaning_of K ring 1 (owner_entries sign)
   unfolding Follows FollowsFrom
   owner_follows = (
     submits_a 1,
@@ -576,7 +577,7 @@ module _ (ring : Ring) (sign : Signing) (are : AreSendable ring sign) where
     acknowledged = round_ended r other_entries_after_lock (ack_frame ∷ []) (ack_sent sign r ∷ []) other_log_after_lock
         (Round 1 ∷ Round 2 ∷ []) makes_ack took_lock
 
-    pub other_follows : Follows K ring r (other_entries sign r)
+    pub other_follows : Follows meaning_of K ring r (other_entries sign r)
     unfolding Follows FollowsFrom
     other_follows = (
       submits_a r,
@@ -619,9 +620,10 @@ module _ (ring : Ring) (sign : Signing) (are : AreSendable ring sign) where
   logs_2 : Logs 2 (other_entries sign 2) (other_log_after_ack 2 (lit≤ tt) refl are.ack_2) (Round 1 ∷ Round 2 ∷ Round 3 ∷ [])
   logs_2 = acknowledged 2 (lit≤ tt) refl are.ack_2
 
-  correct : AreCorrect K ring H
+  correct : AreCorrect meaning_of K ring H
   correct = record {
-    follows = each_of_three (other_entries sign 0) (owner_entries sign) (other_entries sign 2) (λ r m. Follows K ring r m.entries)
+    follows = each_of_three (other_entries sign 0) (owner_entries sign) (other_entries sign 2)
+        (λ r m. Follows meaning_of K ring r m.entries)
         (other_follows 0 (lit≤ tt) refl are.ack_0) owner_follows (other_follows 2 (lit≤ tt) refl are.ack_2);
     below = λ r is. elim (replica_of_three (other_entries sign 0) (owner_entries sign) (other_entries sign 2) r is) [
       | Is_0 at ↦ omega (arith, at)

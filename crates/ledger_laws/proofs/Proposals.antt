@@ -1,4 +1,5 @@
 -- If all correct proposals of a height are one value, correct replicas report no other, and no other is decided.
+use Rattle.ledger_model.specs.Meanings.{Meanings}
 use Rattle.std.proofs.Common.{◌≡◌, ℕ, zero, suc, ◌+◌, ◌*◌, ◌<◌, ◌≤◌, Bool, true, false, not, ◌&&◌, ◌||◌, cond, inl, inr, List, [], ◌∷◌}
 use Rattle.std.proofs.Common.{length, refl, sym, ap, subst, ◌∙◌, zero-add, arith}
 use Rattle.std.specs.Prelude.{nat_eq, Some, filter, take}
@@ -49,7 +50,8 @@ pub record ReportBy (config : Config) (histories : List History) (h x j : ℕ) (
   pub is : signed.statement ≡ statement.Report report
   pub read : Has front (Read (round_at report_place j) signed)
 
-module _ (config : Config) (ring : Ring) (histories : List History) (correct : AreCorrect config ring histories) (h : ℕ)
+module _ (meaning : Meanings) (config : Config) (ring : Ring) (histories : List History)
+    (correct : AreCorrect meaning config ring histories) (h : ℕ)
     (backed : ReadsBacked config histories h) where
   pub report_by : (r : ℕ) → is_correct histories r ≡ true → (front : List Note) (c : ℕ) → OpenedAt (log_in config histories h r) front c
       → (x : ℕ) → is_correct histories x ≡ true → (j : ℕ) (test : Report → Bool)
@@ -62,12 +64,12 @@ module _ (config : Config) (ring : Ring) (histories : List History) (correct : A
       let parts = and_parts (nat_eq p.signer x) (test p) (report.1.1) in
       let signer : p.signer ≡ x = eqb-true (p.signer) x (parts.0) in
       let in_log = (opened.past (round_at report_place j) s (found.1.0)).0 in
-      let good = good_in config ring histories correct h r is in
+      let good = good_in meaning config ring histories correct h r is in
       let of_height : p.height ≡ h = sym (ap height_of (report.1.0)) ∙ good.heights (round_at report_place j) s in_log in
       let right = good.reads (round_at report_place j) s in_log in
       let phase = right.reports p (report.1.0) in
       let whole = backed r (round_at report_place j) s is in_log in
-      let made = backed_here config ring histories correct h backed (statement.Report p) of_height
+      let made = backed_here meaning config ring histories correct h backed (statement.Report p) of_height
       (subst (Backed config histories) (report.1.0) (whole.own)) (ap (is_correct histories) signer ∙ also) in
       record {
         report = p;
@@ -108,7 +110,7 @@ module _ (config : Config) (ring : Ring) (histories : List History) (correct : A
         → Has (log_in config histories h x) (OwnStatement c (statement.Report p)) → p.initial ≡ v
     unfolding report_of
     initial_is x c p is made =
-        let m = (good_in config ring histories correct h x is).made c (statement.Report p) made in
+        let m = (good_in meaning config ring histories correct h x is).made c (statement.Report p) made in
         let told = report_as config x h (m.front) c (m.made) p (made_cases config x h (m.front) c (m.mute) (m.made) (m.may)) (m.has) in
         ap (λ (q : Report). q.initial) (told.1.1) ∙ common x (told.0) is (m.begins (told.0) (told.1.0))
 
@@ -216,7 +218,7 @@ module _ (config : Config) (ring : Ring) (histories : List History) (correct : A
     unfolding report_of
     plain_below zero = λ x c p is made below. absurd (omega arith)
     plain_below (suc n) = λ x c p is made below.
-        let m = (good_in config ring histories correct h x is).made c (statement.Report p) made in
+        let m = (good_in meaning config ring histories correct h x is).made c (statement.Report p) made in
         let told = report_as config x h (m.front) c (m.made) p (made_cases config x h (m.front) c (m.mute) (m.made) (m.may)) (m.has) in
         let own : told.0 ≡ v = common x (told.0) is (m.begins (told.0) (told.1.0)) in
         let same : p ≡ report_of config x h (m.front) (phase_of c) v = told.1.1 ∙ ap (report_of config x h (m.front) (phase_of c)) own in
@@ -234,7 +236,7 @@ module _ (config : Config) (ring : Ring) (histories : List History) (correct : A
     pub decided_common : (r : ℕ) → is_correct histories r ≡ true → (w : Value) → decided_of config (log_in config histories h r) ≡ Some w
         → w ≡ v
     decided_common r is w decided =
-        let a = settled config ring histories correct h backed r is w decided in
+        let a = settled meaning config ring histories correct h backed r is w decided in
         let l = a.lock in
         let outer = and_parts (nat_eq (length l.proof) (quorum config) && ascends_within 0 config.replicas (signers_of l.proof))
         (list_all (of_lock l) l.proof) (a.valid.quorate) in
@@ -255,7 +257,7 @@ module _ (config : Config) (ring : Ring) (histories : List History) (correct : A
         let same_height = (and_parts (nat_eq p.report.height l.height) (nat_eq p.report.phase l.phase)
         (all_has (of_lock l) l.proof p (outer.1) (report.1.0))).0 in
         let of_height : p.report.height ≡ h = eqb-true (p.report.height) (l.height) same_height ∙ a.of_height in
-        let made = backed_here config ring histories correct h backed (statement.Report p.report) of_height
+        let made = backed_here meaning config ring histories correct h backed (statement.Report p.report) of_height
         (a.valid.reports p (report.1.0)) (ap (is_correct histories) signer ∙ found.1.0) in
         let made_x : Has (log_in config histories h x) (OwnStatement (made.0) (statement.Report p.report)) =
         subst (λ y. Has (log_in config histories h y) (OwnStatement (made.0) (statement.Report p.report))) signer (made.1) in

@@ -1,4 +1,5 @@
 -- Histories that no ledger explains.
+use Rattle.ledger_model.specs.Kinds.{meaning_of}
 use Rattle.std.proofs.Common.{◌≡◌, ℕ, zero, suc, ◌+◌, true, false, inl, inr, List, [], ◌∷◌, ◌++◌, length, take, refl, sym, ap, subst, ◌∙◌}
 use Rattle.std.proofs.Common.{arith}
 use Rattle.std.proofs.lemmas.Bool.{cases_Bool, eqb-true}
@@ -37,13 +38,13 @@ committed_in : (xs ledger : List Value) (i : ℕ) (v : Value) → Begins xs ledg
 committed_in xs ledger i v begins at = begins_get xs ledger i begins (get_lt xs i v at) ∙ at
 
 pub fork_has_no_ledger : ForkHasNoLedger
-fork_has_no_ledger config histories r q i m n v w found_m found_n at_v at_w differ ledger is =
+fork_has_no_ledger meaning config histories r q i m n v w found_m found_n at_v at_w differ ledger is =
     let of_r = committed_in (commits_of config r m.entries) ledger i v (is.each r m found_m) at_v in
     let of_q = committed_in (commits_of config q n.entries) ledger i w (is.each q n found_n) at_w in
     differ (same_Some v w (sym of_r ∙ of_q))
 
 pub unproposed_batch_has_no_ledger : UnproposedBatchHasNoLedger
-unproposed_batch_has_no_ledger config histories r h m v w found at_w proposed differ ledger is =
+unproposed_batch_has_no_ledger meaning config histories r h m v w found at_w proposed differ ledger is =
     differ (is.common h v w proposed (committed_in (commits_of config r m.entries) ledger h w (is.each r m found) at_w))
 
 -- ---- what the histories commit
@@ -105,29 +106,29 @@ each_of_three of_0 of_1 of_2 P at_0 at_1 at_2 r m found =
 -- ---- runs
 
 pub no_run_without_ledger : NoRunWithoutLedger
-no_run_without_ledger config w now none refines =
+no_run_without_ledger meaning config w now none refines =
     none (refines.ledger (length w.order))
-    (subst (λ (v : World). IsLedger config v.histories (refines.ledger (length w.order))) now
+    (subst (λ (v : World). IsLedger meaning config v.histories (refines.ledger (length w.order))) now
     (refines.is_ledger (length w.order) (omega arith)))
 
 pub no_run_that_rewrites : NoRunThatRewrites
-no_run_that_rewrites config w n ledger later lt is_now is_later rewrites refines =
+no_run_that_rewrites meaning config w n ledger later lt is_now is_later rewrites refines =
     let now : refines.ledger n ≡ ledger =
-    ledger_is_unique config (world_at w n).histories (refines.ledger n) ledger (refines.is_ledger n (omega (arith, lt))) is_now in
+    ledger_is_unique meaning config (world_at w n).histories (refines.ledger n) ledger (refines.is_ledger n (omega (arith, lt))) is_now in
     let next : refines.ledger (n + 1) ≡ later =
-    ledger_is_unique config (world_at w (n + 1)).histories (refines.ledger (n + 1)) later
+    ledger_is_unique meaning config (world_at w (n + 1)).histories (refines.ledger (n + 1)) later
     (refines.is_ledger (n + 1) (omega (arith, lt))) is_later in
     rewrites (subst (Begins ledger) next (subst (λ vs. Begins vs (refines.ledger (n + 1))) now (refines.grows n lt)))
 
-fork_has_none : NoLedger (four KvStore) forked
+fork_has_none : NoLedger meaning_of (four KvStore) forked
 fork_has_none =
-    fork_has_no_ledger (four KvStore) forked 1 2 0 (record { replica = 1; entries = commits a a (first_result a) })
+    fork_has_no_ledger meaning_of (four KvStore) forked 1 2 0 (record { replica = 1; entries = commits a a (first_result a) })
     (record { replica = 2; entries = commits b b (first_result b) }) a b refl refl
     (ap (λ vs. slice_get vs 0) (commits_a (first_result a))) (ap (λ vs. slice_get vs 0) (commits_b (first_result b))) differ
 
-fork_is_no_run : Refines (four KvStore) forked_world → ⊥
+fork_is_no_run : Refines meaning_of (four KvStore) forked_world → ⊥
 unfolding world_at
-fork_is_no_run refines = no_run_without_ledger (four KvStore) forked_world refl fork_has_none refines
+fork_is_no_run refines = no_run_without_ledger meaning_of (four KvStore) forked_world refl fork_has_none refines
 
 three_replicas : AreReplicas (four KvStore) (0 ∷ 1 ∷ 2 ∷ [])
 three_replicas = record {
@@ -147,7 +148,7 @@ fork_example = (
   fork_has_none,
   fork_is_no_run,
   λ ring steps answers runs unforged. fork_is_no_run
-      (runs_refine (four KvStore) ring (0 ∷ 1 ∷ 2 ∷ []) steps answers forked_world three_replicas runs unforged),
+      (runs_refine meaning_of (four KvStore) ring (0 ∷ 1 ∷ 2 ∷ []) steps answers forked_world three_replicas runs unforged),
 )
 
 -- ---- replies
@@ -160,7 +161,7 @@ wrong_block_has_no_ledger result wrong ledger is =
     committed_in (commits_of (four KvStore) 1 (commits a a result)) ledger 0 a
     (is.each 1 (record { replica = 1; entries = commits a a result }) refl) (ap (λ vs. slice_get vs 0) (commits_a result)) in
     let same : ran.0 ≡ a = same_Some (ran.0) a (sym (ran.1) ∙ there) in
-    wrong (ran.2 ∙ ap (block_reply KvStore []) same)
+    wrong (ran.2 ∙ ap (block_reply meaning_of KvStore []) same)
 
 pub wrong_query_has_no_ledger : WrongQueryHasNoLedger
 unfolding commits_of decided_of log_of log_after notes_of statements_made statements_sent own_ack held_values holds statement_bytes
@@ -168,18 +169,18 @@ unfolding commits_of decided_of log_of log_after notes_of statements_made statem
     value_at txs_at tx_at list_at values_at signature_at
 wrong_query_has_no_ledger key given wrong ledger is =
     let m : History = record { replica = 1; entries = commits a a (first_result a) ++ answers_query key given ∷ [] } in
-    let on : given ≡ query_reply KvStore (take 1 ledger) key 0 = is.replies 1 9 m (answers_query key given) refl refl in
+    let on : given ≡ query_reply meaning_of KvStore (take 1 ledger) key 0 = is.replies 1 9 m (answers_query key given) refl refl in
     let begins : take 1 ledger ≡ a ∷ [] = is.each 1 m refl in
-    wrong (on ∙ ap (λ vs. query_reply KvStore vs key 0) begins)
+    wrong (on ∙ ap (λ vs. query_reply meaning_of KvStore vs key 0) begins)
 
 pub wrong_code_has_no_ledger : WrongCodeHasNoLedger
 unfolding commits_of
-wrong_code_has_no_ledger config tx code wrong ledger is =
+wrong_code_has_no_ledger meaning config tx code wrong ledger is =
     wrong (is.replies 2 0 (record { replica = 2; entries = rejects tx code ∷ [] }) (rejects tx code) refl refl).0
 
 pub taken_refusal_has_no_ledger : TakenRefusalHasNoLedger
 unfolding commits_of
-taken_refusal_has_no_ledger config tx wrong ledger is =
+taken_refusal_has_no_ledger meaning config tx wrong ledger is =
     wrong (is.replies 2 0 (record { replica = 2; entries = takes tx ∷ [] }) (takes tx) refl refl)
 
 -- ---- another value than the common proposal
@@ -188,7 +189,7 @@ pub unproposed_batch_example : UnproposedBatchExample
 unfolding log_of log_after notes_of
 unproposed_batch_example = (
   commits_other (first_result b),
-  unproposed_batch_has_no_ledger (four KvStore) _ 1 0 (record { replica = 1; entries = commits a b (first_result b) }) a b refl
+  unproposed_batch_has_no_ledger meaning_of (four KvStore) _ 1 0 (record { replica = 1; entries = commits a b (first_result b) }) a b refl
       (ap (λ vs. slice_get vs 0) (commits_other (first_result b))) proposed (λ e. differ (sym e)),
 )
   where
@@ -219,7 +220,7 @@ commits_asked key given = refl
 
 module _ (key : List ℕ) where
   abbrev asked : List Entry
-  asked = commits a a (first_result a) ++ answers_query key (query_reply KvStore (a ∷ []) key 0) ∷ []
+  asked = commits a a (first_result a) ++ answers_query key (query_reply meaning_of KvStore (a ∷ []) key 0) ∷ []
 
   abbrev agreed : List History
   agreed = three [] asked (commits a a (first_result a))
@@ -230,14 +231,14 @@ module _ (key : List ℕ) where
 
   -- the reply of the entry at a place is that of the application
   same_reply : (r : ℕ) (entries : List Entry) (i : ℕ) (x e : Entry) → Some x ≡ Some e
-      → IsReplyOn (four KvStore) (a ∷ []) (committed r entries i) x.event x.reply
-      → IsReplyOn (four KvStore) (a ∷ []) (committed r entries i) e.event e.reply
+      → IsReplyOn meaning_of (four KvStore) (a ∷ []) (committed r entries i) x.event x.reply
+      → IsReplyOn meaning_of (four KvStore) (a ∷ []) (committed r entries i) e.event e.reply
   same_reply r entries i x e at is =
-      subst (λ (y : Entry). IsReplyOn (four KvStore) (a ∷ []) (committed r entries i) y.event y.reply) (same_Some x e at) is
+      subst (λ (y : Entry). IsReplyOn meaning_of (four KvStore) (a ∷ []) (committed r entries i) y.event y.reply) (same_Some x e at) is
 
   abbrev Replies : ℕ → List Entry → Type 0
   Replies r entries = (i : ℕ) (e : Entry) → slice_get entries i ≡ Some e
-      → IsReplyOn (four KvStore) (a ∷ []) (committed r entries i) e.event e.reply
+      → IsReplyOn meaning_of (four KvStore) (a ∷ []) (committed r entries i) e.event e.reply
 
   replies_0 : Replies 0 []
   replies_0 i e at = cc
@@ -276,7 +277,7 @@ module _ (key : List ℕ) where
   proposed_a zero v w proposed at = sym (same_Some a w at) ∙ proposed 1 a refl refl
   proposed_a (suc h) v w proposed at = cc
 
-  is_agreed : IsLedger (four KvStore) agreed (a ∷ [])
+  is_agreed : IsLedger meaning_of (four KvStore) agreed (a ∷ [])
   unfolding commits_of
   is_agreed = record {
     some = (1, (record { replica = 1; entries = asked }, (refl, sym (commits_asked key _))));

@@ -1,5 +1,6 @@
 -- Each statement that a lawful history sends as its own is in the history's log at the statement's height, as made. The
 -- heights and phases of what it sends and accepts fit four bytes, since only low heights are opened and rounds are few.
+use Rattle.ledger_model.specs.Meanings.{Meanings}
 use Rattle.std.proofs.Common.{◌≡◌, ℕ, ◌+◌, ◌≤◌, Bool, true, false, not, ◌&&◌, ◌||◌, cond, ◌⊎◌, inl, inr, List, [], ◌∷◌, ◌++◌, map}
 use Rattle.std.proofs.Common.{refl, sym, ap, subst, ◌∙◌, append_assoc, arith}
 use Rattle.std.specs.Prelude.{nat_eq, nat_lt, nat_le, length, take, Option, Some, None, Ok}
@@ -126,23 +127,24 @@ not_closed : (b : Bool) (cs : List (Bool × ProposeRefusal)) (v w : Value) → O
 not_closed true cs v w e = cc
 not_closed false cs v w e = refl
 
-low_opened : (config : Config) (id : ℕ) (front : List Entry) (n : ℕ) (v : Value) → Ok v ≡ propose_reply config id front n → n ≤ max_height
+low_opened : (meaning : Meanings) (config : Config) (id : ℕ) (front : List Entry) (n : ℕ) (v : Value)
+    → Ok v ≡ propose_reply meaning config id front n → n ≤ max_height
 unfolding propose_reply
-low_opened config id front n v e =
+low_opened meaning config id front n v e =
     let open_now = not_closed (nat_eq n 0 || nat_lt max_height n)
     ((nat_lt n (floor_of front), closed.Retired)
     ∷ (is_open (log_of config id n front), closed.AlreadyOpen)
     ∷ (nat_lt (length (commits_of config id front) + max_ahead) n, closed.TooFar)
-    ∷ []) (take (batch_limit config.frames) (pool_of config id front)) v e in
+    ∷ []) (take (batch_limit config.frames) (pool_of meaning config id front)) v e in
     ltb-false max_height n ((or_parts (nat_eq n 0) (nat_lt max_height n) open_now).1)
 
-module _ (config : Config) (ring : Ring) (id h : ℕ) where
-  low_note : (front : List Entry) (log : List Note) (e : Event) (r : Reply) → Lawful config ring id front e r
+module _ (meaning : Meanings) (config : Config) (ring : Ring) (id h : ℕ) where
+  low_note : (front : List Entry) (log : List Note) (e : Event) (r : Reply) → Lawful meaning config ring id front e r
       → (v : Value) → initial_of (notes_of config id h log e r) ≡ Some v → h ≤ max_height
   unfolding notes_of
   low_note front log (event.Propose n) (reply.Proposed (Ok w)) lawful v is =
       let same : n ≡ h = eqb-true n h (initial_if (nat_eq n h) w v is) in
-      let low = low_opened config id front n w lawful in
+      let low = low_opened meaning config id front n w lawful in
       omega arith
   low_note front log (event.Deliver bytes) (reply.Delivered (Ok u)) lawful v is =
       absurd (none_some _ v (initial_delivered (clock_of log) h (reading_in config.frames bytes)) is)
@@ -152,13 +154,14 @@ module _ (config : Config) (ring : Ring) (id h : ℕ) where
   low_note front log e r lawful v is = cc
 
   -- a lawful history opens no height above the greatest
-  low_height : (entries : List Entry) → Follows config ring id entries → (v : Value) → initial_of (log_of config id h entries) ≡ Some v
+  low_height : (entries : List Entry) → Follows meaning config ring id entries → (v : Value)
+      → initial_of (log_of config id h entries) ≡ Some v
       → h ≤ max_height
   unfolding log_of log_after
   low_height entries follows =
-      each_entry config ring id (λ es. (v : Value) → initial_of (log_of config id h es) ≡ Some v → h ≤ max_height) (λ v is. cc)
+      each_entry meaning config ring id (λ es. (v : Value) → initial_of (log_of config id h es) ≡ Some v → h ≤ max_height) (λ v is. cc)
       (λ front e next before lawful low v is. elim (initial_cases (log_of config id h front) _ v
-      (subst (λ l. initial_of l ≡ Some v) (log_of-snoc config ring id h [] front e) is)) [
+      (subst (λ l. initial_of l ≡ Some v) (log_of-snoc meaning config ring id h [] front e) is)) [
         | inl old ↦ low v old
         | inr new ↦ low_note front (log_of config id h front) (e.event) (e.reply) lawful v new
       ]) entries follows
@@ -186,7 +189,7 @@ module _ (config : Config) (ring : Ring) (id h : ℕ) where
       read true = refl
       read false = refl
 
-  notes_clock : (front : List Entry) (log : List Note) (e : Event) (r : Reply) → Lawful config ring id front e r
+  notes_clock : (front : List Entry) (log : List Note) (e : Event) (r : Reply) → Lawful meaning config ring id front e r
       → clock_of (notes_of config id h log e r) ≡ opens r
   unfolding notes_of
   notes_clock front log event.RoundEnd (reply.RoundEnded (Ok ended)) lawful =
@@ -208,29 +211,29 @@ module _ (config : Config) (ring : Ring) (id h : ℕ) where
   clock_at-snoc (x ∷ xs) e = let rest = clock_at-snoc xs e in omega arith
 
   -- the open round is the same at every height
-  pub clock_is : (entries : List Entry) → Follows config ring id entries → clock_of (log_of config id h entries) ≡ clock_at entries
+  pub clock_is : (entries : List Entry) → Follows meaning config ring id entries → clock_of (log_of config id h entries) ≡ clock_at entries
   unfolding log_of log_after
   clock_is entries follows =
-      each_entry config ring id (λ es. clock_of (log_of config id h es) ≡ clock_at es) refl
+      each_entry meaning config ring id (λ es. clock_of (log_of config id h es) ≡ clock_at es) refl
       (λ front e next before lawful is.
       let log : List Note = log_of config id h front in
       let snoc : clock_of (log_of config id h (front ++ e ∷ [])) ≡ clock_of (log ++ notes_of config id h log e.event e.reply) =
-      ap clock_of (log_of-snoc config ring id h [] front e) in
+      ap clock_of (log_of-snoc meaning config ring id h [] front e) in
       let both = clock_of-append log (notes_of config id h log e.event e.reply) in
       let notes = notes_clock front log (e.event) (e.reply) lawful in
       let count = clock_at-snoc front e in
       omega (arith, snoc, both, notes, count, is)) entries follows
 
   -- no round after the last is opened
-  clock_low : (entries : List Entry) → Follows config ring id entries → clock_at entries ≤ last_round
+  clock_low : (entries : List Entry) → Follows meaning config ring id entries → clock_at entries ≤ last_round
   clock_low entries follows =
-      each_entry config ring id (λ es. clock_at es ≤ last_round) (omega arith)
+      each_entry meaning config ring id (λ es. clock_at es ≤ last_round) (omega arith)
       (λ front e next before lawful low.
       let count = clock_at-snoc front e in
       let one = opened_low front (e.event) (e.reply) lawful low in
       omega (arith, count, one)) entries follows
     where
-      opened_low : (front : List Entry) (e : Event) (r : Reply) → Lawful config ring id front e r → clock_at front ≤ last_round
+      opened_low : (front : List Entry) (e : Event) (r : Reply) → Lawful meaning config ring id front e r → clock_at front ≤ last_round
           → clock_at front + opens r ≤ last_round
       opened_low front event.RoundEnd (reply.RoundEnded (Ok ended)) lawful low = omega (arith, lawful.0)
       opened_low front (event.Submit x) (reply.RoundEnded (Ok ended)) lawful low = absurd lawful
@@ -244,19 +247,20 @@ module _ (config : Config) (ring : Ring) (id h : ℕ) where
 -- ---- what is accepted
 
 -- an accepted statement fits its widths, and so does each report in its proof
-pub accepted_fits : (config : Config) (ring : Ring) (id : ℕ) (front : List Entry) (bytes : List ℕ) (s : SignedStatement) (u : Unit {0})
-    → Follows config ring id front → reading bytes ≡ Some s
+pub accepted_fits : (meaning : Meanings) (config : Config) (ring : Ring) (id : ℕ) (front : List Entry) (bytes : List ℕ)
+    (s : SignedStatement) (u : Unit {0})
+    → Follows meaning config ring id front → reading bytes ≡ Some s
     → answer_to config ring (log_of config id (height_of s.statement) front) s ≡ Ok u → FitsWidths s.statement
 unfolding causes
-accepted_fits config ring id front bytes s u follows spelled ok =
+accepted_fits meaning config ring id front bytes s u follows spelled ok =
     let log : List Note = log_of config id (height_of s.statement) front in
     let open_test = none_fits (causes config ring log s) u (not (is_open log)) cause.NoRow ok refl in
     let opened = some_value (open_of log) (not-false (is_open log) open_test) in
-    let low = low_height config ring id (height_of s.statement) front follows opened.0 ((open_value log opened.0 opened.1).1) in
+    let low = low_height meaning config ring id (height_of s.statement) front follows opened.0 ((open_value log opened.0 opened.1).1) in
     let phase_test = none_fits (causes config ring log s) u (not (has_phase (clock_of log) s.statement)) cause.WrongPhase ok refl in
     let phase = phase_low (clock_of log) s.statement (not-false (has_phase (clock_of log) s.statement) phase_test) in
-    let clock = clock_is config ring id (height_of s.statement) front follows in
-    let clock_end = clock_low config ring id 0 front follows in
+    let clock = clock_is meaning config ring id (height_of s.statement) front follows in
+    let clock_end = clock_low meaning config ring id 0 front follows in
     fits_from config s.statement low (omega (arith, phase, clock, clock_end)) (read_short bytes s spelled)
     (λ l is. (accepted_reads config ring log s u ok l is).quorate)
 
@@ -295,9 +299,9 @@ note_stays config id h xs ys n has =
     let more = grown config id h (log_after config id h [] xs) ys in
     subst (λ l. Has l n) (sym (log_after-append config id h [] xs ys ∙ more.1.0)) (has_left (log_after config id h [] xs) more.0 n has)
 
-module _ (config : Config) (ring : Ring) (id : ℕ) where
+module _ (meaning : Meanings) (config : Config) (ring : Ring) (id : ℕ) where
   -- what an entry sends fits its widths, and the entry notes it as made
-  new_note : (front : List Entry) (e : Event) (r : Reply) → Follows config ring id front → Lawful config ring id front e r
+  new_note : (front : List Entry) (e : Event) (r : Reply) → Follows meaning config ring id front → Lawful meaning config ring id front e r
       → (s : Statement) → Has (sends (clock_at front) r) s
       → FitsWidths s
       × ((c : ℕ) × Has (notes_of config id (height_of s) (log_of config id (height_of s) front) e r) (OwnStatement c s))
@@ -313,7 +317,7 @@ module _ (config : Config) (ring : Ring) (id : ℕ) where
             let h : ℕ = height_of signed.0.statement in
             let log : List Note = log_of config id h front in
             let c : ℕ = clock_of log + 1 in
-            let clock = clock_is config ring id h front follows in
+            let clock = clock_is meaning config ring id h front follows in
             let sent : Has (statements_sent h ended) signed.0 =
             has_filter (λ (x : SignedStatement). nat_eq (height_of x.statement) h) (filter_map (λ (f : Sent). reading f.frame) ended.frames)
             signed.0 signed.1.0 (eq-eqb h h refl) in
@@ -326,7 +330,7 @@ module _ (config : Config) (ring : Ring) (id : ℕ) where
             let may = (lawful.1).makes h in
             let by = made_cases config id h log c ended.mute made may in
             let opened = made_opened config id h log c ended.mute made signed.0.statement may in_made in
-            let low = low_height config ring id h front follows opened.0 opened.1 in
+            let low = low_height meaning config ring id h front follows opened.0 opened.1 in
             let phase = made_phase config id h log c made signed.0.statement by in_made (omega (arith, clock, lawful.0)) in
             let fits : FitsWidths signed.0.statement =
             fits_from config signed.0.statement low phase (read_short frame.0.frame signed.0 frame.1.1)
@@ -364,15 +368,16 @@ module _ (config : Config) (ring : Ring) (id : ℕ) where
           known c ∙ ap (λ n. sent_from c xs ++ sends n e.reply) same
 
   -- whatever encoding a lawful history sends as its own, its log has such a statement as made
-  pub own_note : (entries : List Entry) → Follows config ring id entries → (bytes : List ℕ) → Has (own_sent entries) bytes
+  pub own_note : (entries : List Entry) → Follows meaning config ring id entries → (bytes : List ℕ) → Has (own_sent entries) bytes
       → OwnNote config id entries bytes
   unfolding own_sent log_of
   own_note entries follows =
-      each_entry config ring id (λ es. (bytes : List ℕ) → Has (map statement_bytes (sent_from 0 es)) bytes → OwnNote config id es bytes)
+      each_entry meaning config ring id (λ es. (bytes : List ℕ) → Has (map statement_bytes (sent_from 0 es)) bytes
+      → OwnNote config id es bytes)
       (λ bytes has. absurd has) step entries follows
     where
-      step : (front : List Entry) (e : Entry) → Follows config ring id (front ++ e ∷ []) → Follows config ring id front
-          → Lawful config ring id front e.event e.reply
+      step : (front : List Entry) (e : Entry) → Follows meaning config ring id (front ++ e ∷ []) → Follows meaning config ring id front
+          → Lawful meaning config ring id front e.event e.reply
           → ((bytes : List ℕ) → Has (map statement_bytes (sent_from 0 front)) bytes → OwnNote config id front bytes)
           → (bytes : List ℕ) → Has (map statement_bytes (sent_from 0 (front ++ e ∷ []))) bytes → OwnNote config id (front ++ e ∷ []) bytes
       step front e next before lawful known bytes has =
@@ -399,7 +404,8 @@ module _ (config : Config) (ring : Ring) (id : ℕ) where
                   spelled = of.1.1;
                   fits = here.0;
                   round = here.1.0;
-                  note = subst (λ l. Has l (OwnStatement here.1.0 of.0)) (sym (log_of-snoc config ring id (height_of of.0) [] front e))
+                  note = subst (λ l. Has l (OwnStatement here.1.0 of.0))
+                      (sym (log_of-snoc meaning config ring id (height_of of.0) [] front e))
                       (has_right (log_of config id (height_of of.0) front) _ (OwnStatement here.1.0 of.0) here.1.1);
                 }
           ]

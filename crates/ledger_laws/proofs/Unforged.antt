@@ -1,4 +1,5 @@
 -- What correct replicas send is backed, so only bytes that a step injects can be forged.
+use Rattle.ledger_model.specs.Meanings.{Meanings}
 use Rattle.std.proofs.Common.{◌≡◌, ℕ, zero, suc, ◌+◌, ◌<◌, Bool, true, false, ◌&&◌, cond, ◌⊎◌, inl, inr, List, [], ◌∷◌, ◌++◌, length, take}
 use Rattle.std.proofs.Common.{refl, sym, ap, subst, ◌∙◌, append_assoc, arith}
 use Rattle.std.specs.Prelude.{nat_eq, nat_lt, Option, Some, None, Result, Ok, Err, slice_get}
@@ -179,7 +180,7 @@ whole_unforged config ring histories s whole = record {
   reports = λ l p lock has signed. whole.reports l p lock has;
 }
 
-module _ (config : Config) (ring : Ring) (correct : List ℕ) where
+module _ (meaning : Meanings) (config : Config) (ring : Ring) (correct : List ℕ) where
   -- what correct replicas read and what they sent is backed
   record BackedTraffic (front : List Added) : Type 0 where
     reads : (h : ℕ) → ReadsBacked config (histories_at correct front) h
@@ -190,14 +191,15 @@ module _ (config : Config) (ring : Ring) (correct : List ℕ) where
   at_first : BackedTraffic []
   unfolding log_of log_after frames_sent
   at_first = record {
-    reads = λ h r c s is has. absurd (subst (λ l. Has l (Read c s)) (log_at config ring correct [] h r is) has);
+    reads = λ h r c s is has. absurd (subst (λ l. Has l (Read c s)) (log_at meaning config ring correct [] h r is) has);
     sent = λ r bytes s is has spelled. absurd has;
   }
 
   -- the frames of a new entry are backed after it
   new_sent : (front : List Added) (a : Added) → ((h : ℕ) → ReadsBacked config (histories_at correct front) h)
       → is_correct (histories_at correct front) a.replica ≡ true
-      → (e : Event) (r : Reply) → e ≡ a.entry.event → r ≡ a.entry.reply → Lawful config ring a.replica (entries_at front a.replica) e r
+      → (e : Event) (r : Reply) → e ≡ a.entry.event → r ≡ a.entry.reply
+      → Lawful meaning config ring a.replica (entries_at front a.replica) e r
       → (bytes : List ℕ) (s : SignedStatement) → Has (frames_in r) bytes → reading bytes ≡ Some s
       → BackedWhole config (histories_at correct (front ++ a ∷ [])) s.statement
   new_sent front a reads is event.RoundEnd (reply.RoundEnded (Ok ended)) same_e same_r lawful bytes s has spelled =
@@ -209,9 +211,11 @@ module _ (config : Config) (ring : Ring) (correct : List ℕ) where
             let held = held_was_read log s
             (sent_held log s (subst (λ ss. Has ss s) ((lawful.1).sends_on (height_of s.statement) at_4) sent)) in
             let read : Has (log_in config (histories_at correct front) (height_of s.statement) a.replica) (Read (held.0) s) =
-            subst (λ l. Has l (Read (held.0) s)) (sym (log_at config ring correct front (height_of s.statement) (a.replica) is)) (held.1) in
-            whole_later config ring correct front a (s.statement) (reads (height_of s.statement) (a.replica) (held.0) s is read)
-        | inr not_4 ↦ made_whole config ring correct front a (height_of s.statement) (reads (height_of s.statement)) is ended same_e same_r
+            subst (λ l. Has l (Read (held.0) s)) (sym (log_at meaning config ring correct front (height_of s.statement) (a.replica) is))
+            (held.1) in
+            whole_later meaning config ring correct front a (s.statement) (reads (height_of s.statement) (a.replica) (held.0) s is read)
+        | inr not_4 ↦ made_whole meaning config ring correct front a (height_of s.statement)
+            (reads (height_of s.statement)) is ended same_e same_r
             (lawful.1) s
             (sent_made config a.replica (height_of s.statement) log (clock_of log + 1) ended s not_4 sent)
       ]
@@ -231,39 +235,40 @@ module _ (config : Config) (ring : Ring) (correct : List ℕ) where
 
   -- what was sent is backed after one entry more
   sent_step : (front : List Added) (a : Added) → BackedTraffic front → is_correct (histories_at correct front) a.replica ≡ true
-      → Lawful config ring a.replica (entries_at front a.replica) a.entry.event a.entry.reply
+      → Lawful meaning config ring a.replica (entries_at front a.replica) a.entry.event a.entry.reply
       → (r : ℕ) (bytes : List ℕ) (s : SignedStatement) → is_correct (histories_at correct (front ++ a ∷ [])) r ≡ true
       → Has (frames_sent (entries_at (front ++ a ∷ []) r)) bytes → reading bytes ≡ Some s
       → BackedWhole config (histories_at correct (front ++ a ∷ [])) s.statement
   sent_step front a backed is lawful r bytes s correct_r has spelled =
-      let was : is_correct (histories_at correct front) r ≡ true = same_correct config ring correct front (front ++ a ∷ []) r ∙ correct_r in
+      let was : is_correct (histories_at correct front) r ≡ true = same_correct meaning config ring correct front (front ++ a ∷ []) r
+      ∙ correct_r in
       let es = entries_at-append front (a ∷ []) r in
       elim (cases_Bool (nat_eq a.replica r)) [
         | inl here ↦
             let e : entries_at (front ++ a ∷ []) r ≡ entries_at front r ++ a.entry ∷ [] =
             es ∙ ap (λ b. entries_at front r ++ (cond b (a.entry ∷ []) [] ++ [])) here in
             elim (sent_cases (entries_at front r) (a.entry) bytes (subst (λ xs. Has (frames_sent xs) bytes) e has)) [
-              | inl old ↦ whole_later config ring correct front a (s.statement) (backed.sent r bytes s was old spelled)
+              | inl old ↦ whole_later meaning config ring correct front a (s.statement) (backed.sent r bytes s was old spelled)
               | inr new ↦ new_sent front a (backed.reads) is (a.entry.event) (a.entry.reply) refl refl lawful bytes s new spelled
             ]
         | inr other ↦
             let e : entries_at (front ++ a ∷ []) r ≡ entries_at front r ++ [] =
             es ∙ ap (λ b. entries_at front r ++ (cond b (a.entry ∷ []) [] ++ [])) other in
-            whole_later config ring correct front a (s.statement)
+            whole_later meaning config ring correct front a (s.statement)
             (backed.sent r bytes s was (subst (λ xs. Has (frames_sent xs) bytes) (e ∙ append-nil (entries_at front r)) has) spelled)
       ]
 
   more_backed : (front : List Added) (a : Added) → BackedTraffic front → is_correct (histories_at correct front) a.replica ≡ true
-      → Lawful config ring a.replica (entries_at front a.replica) a.entry.event a.entry.reply
+      → Lawful meaning config ring a.replica (entries_at front a.replica) a.entry.event a.entry.reply
       → AcceptsUnforged config ring (histories_at correct front) a.entry.event a.entry.reply → BackedTraffic (front ++ a ∷ [])
   more_backed front a backed is lawful unforged = record {
-    reads = backed_step config ring correct front a (backed.reads) is lawful unforged;
+    reads = backed_step meaning config ring correct front a (backed.reads) is lawful unforged;
     sent = sent_step front a backed is lawful;
   }
 
   module _ (steps : List WorldStep) where
     -- what an entry delivers was sent by a correct replica, or some step injects it
-    source : (front : List Added) (a : Added) → IsCaused config ring correct steps front a → (bytes : List ℕ)
+    source : (front : List Added) (a : Added) → IsCaused meaning config ring correct steps front a → (bytes : List ℕ)
         → a.entry.event ≡ event.Deliver bytes
         → SenderOf (world_of correct front) bytes ⊎ Has steps (step.Inject a.replica bytes)
     source front a caused bytes same =
@@ -274,7 +279,7 @@ module _ (config : Config) (ring : Ring) (correct : List ℕ) where
 
     -- what an entry accepts is unforged: it was sent, or it is no forgery that a step injects
     accepts_unforged : (front more : List Added) (a : Added) → BackedTraffic front
-        → is_correct (histories_at correct front) a.replica ≡ true → IsCaused config ring correct steps front a
+        → is_correct (histories_at correct front) a.replica ≡ true → IsCaused meaning config ring correct steps front a
         → NoInjectedForgery config ring steps (world_of correct (front ++ a ∷ more))
         → (e : Event) (r : Reply) → a.entry ≡ record { event = e; reply = r } → AcceptsUnforged config ring (histories_at correct front) e r
     accepts_unforged front more a backed is caused none (event.Deliver bytes) (reply.Delivered (Ok u)) same = λ s spelled.
@@ -284,14 +289,14 @@ module _ (config : Config) (ring : Ring) (correct : List ℕ) where
               subst (λ es. Has (frames_sent es) bytes) (entries_told correct front (by.from) (by.is)) (by.has) in
               whole_unforged config ring (histories_at correct front) s (backed.sent (by.from) bytes s (by.is) has spelled)
           | inr injects ↦
-              let at = entry_place config ring correct front more a is in
+              let at = entry_place meaning config ring correct front more a is in
               subst (λ (w : World). IsUnforged config ring w.histories s) at.then
               (none (length front) a.replica bytes u s injects at.order (at.entry ∙ ap Some same) spelled)
         ]
     accepts_unforged front more a backed is caused none e r same = tt
 
-    unforged : (front more : List Added) → BackedTraffic front → RunsFrom config ring correct front more
-        → AreCaused config ring correct steps front more → NoInjectedForgery config ring steps (world_of correct (front ++ more))
+    unforged : (front more : List Added) → BackedTraffic front → RunsFrom meaning config ring correct front more
+        → AreCaused meaning config ring correct steps front more → NoInjectedForgery config ring steps (world_of correct (front ++ more))
         → UnforgedFrom config ring correct front more
     unfolding RunsFrom UnforgedFrom AreCaused
     unforged front [] backed runs caused none = tt
@@ -307,7 +312,7 @@ module _ (config : Config) (ring : Ring) (correct : List ℕ) where
     is : is_correct (histories_at correct front) a.replica ≡ true
     unforged : AcceptsUnforged config ring (histories_at correct front) a.entry.event a.entry.reply
 
-  unforged_entry : (front mid : List Added) (a : Added) (rest : List Added) → RunsFrom config ring correct front (mid ++ a ∷ rest)
+  unforged_entry : (front mid : List Added) (a : Added) (rest : List Added) → RunsFrom meaning config ring correct front (mid ++ a ∷ rest)
       → UnforgedFrom config ring correct front (mid ++ a ∷ rest) → UnforgedEntry (front ++ mid) a
   unfolding RunsFrom UnforgedFrom
   unforged_entry front [] a rest runs unforged =
@@ -328,7 +333,7 @@ module _ (config : Config) (ring : Ring) (correct : List ℕ) where
   unforged_at : (mid : List Added) (a : Added) (rest : List Added) → UnforgedEntry mid a → UnforgedAt (mid ++ a ∷ rest) (length mid)
   unforged_at mid a rest at = λ r bytes u s order entry spelled.
       let w : World = world_of correct (mid ++ a ∷ rest) in
-      let there = entry_place config ring correct mid rest a (at.is) in
+      let there = entry_place meaning config ring correct mid rest a (at.is) in
       let its : r ≡ a.replica = same_Some r (a.replica) (sym order ∙ there.order) in
       let given : Entry = record { event = event.Deliver bytes; reply = reply.Delivered (Ok u) } in
       let same : a.entry ≡ given =
@@ -339,7 +344,7 @@ module _ (config : Config) (ring : Ring) (correct : List ℕ) where
       subst (λ (v : World). IsUnforged config ring v.histories s) (sym there.then) (fine s spelled)
 
   -- the world of an unforged timeline has no forgery
-  no_forgery : (timeline : List Added) → RunsFrom config ring correct [] timeline → UnforgedFrom config ring correct [] timeline
+  no_forgery : (timeline : List Added) → RunsFrom meaning config ring correct [] timeline → UnforgedFrom config ring correct [] timeline
       → NoForgery config ring (world_of correct timeline)
   no_forgery timeline runs unforged = λ n r bytes u s order entry spelled.
       let lt : n < length timeline =
@@ -347,7 +352,7 @@ module _ (config : Config) (ring : Ring) (correct : List ℕ) where
       let e = next_at n timeline lt in
       let size : length (take n timeline) ≡ n = omega (arith, lt, length-take n timeline) in
       let at : UnforgedEntry (take n timeline) (e.here) =
-      unforged_entry [] (take n timeline) (e.here) (e.rest) (subst (RunsFrom config ring correct []) (e.is) runs)
+      unforged_entry [] (take n timeline) (e.here) (e.rest) (subst (RunsFrom meaning config ring correct []) (e.is) runs)
       (subst (UnforgedFrom config ring correct []) (e.is) unforged) in
       let here : UnforgedAt timeline n =
       subst (λ t. UnforgedAt t n) (sym (e.is))
@@ -355,18 +360,18 @@ module _ (config : Config) (ring : Ring) (correct : List ℕ) where
       here r bytes u s order entry spelled
 
 pub only_injections_forge : OnlyInjectionsForge
-only_injections_forge config ring correct steps answers w runs none =
-    let t = told config ring correct steps answers w runs in
-    let unforged_all = unforged config ring correct steps [] (t.more) (at_first config ring correct) (t.runs) (t.caused)
+only_injections_forge meaning config ring correct steps answers w runs none =
+    let t = told meaning config ring correct steps answers w runs in
+    let unforged_all = unforged meaning config ring correct steps [] (t.more) (at_first meaning config ring correct) (t.runs) (t.caused)
     (subst (NoInjectedForgery config ring steps) (t.is) none) in
-    subst (NoForgery config ring) (sym (t.is)) (no_forgery config ring correct (t.more) (t.runs) unforged_all)
+    subst (NoForgery config ring) (sym (t.is)) (no_forgery meaning config ring correct (t.more) (t.runs) unforged_all)
 
 pub silent_runs_forge_nothing : SilentRunsForgeNothing
-silent_runs_forge_nothing config ring correct steps answers w runs silent =
-    only_injections_forge config ring correct steps answers w runs
+silent_runs_forge_nothing meaning config ring correct steps answers w runs silent =
+    only_injections_forge meaning config ring correct steps answers w runs
     (λ n r bytes u s injects order entry spelled. absurd (silent r bytes injects))
 
 pub silent_runs_refine : SilentRunsRefine
-silent_runs_refine config ring correct steps answers w replicas runs silent =
-    runs_refine config ring correct steps answers w replicas runs
-    (silent_runs_forge_nothing config ring correct steps answers w runs silent)
+silent_runs_refine meaning config ring correct steps answers w replicas runs silent =
+    runs_refine meaning config ring correct steps answers w replicas runs
+    (silent_runs_forge_nothing meaning config ring correct steps answers w runs silent)

@@ -1,4 +1,5 @@
 -- A run of a world, as one list of what was added, oldest first.
+use Rattle.ledger_model.specs.Meanings.{Meanings}
 use Rattle.std.proofs.Common.{◌≡◌, ℕ, zero, suc, ◌+◌, ◌<◌, true, false, cond, inl, inr, ◌&&◌, List, [], ◌∷◌, ◌++◌, length, map, take, drop}
 use Rattle.std.proofs.Common.{refl, sym, ap, subst, ◌∙◌, append_assoc, arith}
 use Rattle.std.specs.Prelude.{nat_eq, nat_lt, nat_le, Option, Some, None, Result, Ok, Err, slice_get}
@@ -200,18 +201,18 @@ next_at (suc n) (x ∷ xs) lt =
     let e = next_at n xs (omega arith) in
     record { here = e.here; rest = e.rest; is = ap (λ l. x ∷ l) (e.is); longer = ap (λ l. x ∷ l) (e.longer) }
 
-module _ (config : Config) (ring : Ring) (correct : List ℕ) where
+module _ (meaning : Meanings) (config : Config) (ring : Ring) (correct : List ℕ) where
   -- a step leaves the world, or adds its event as one lawful entry at a correct replica
   data Stepped (timeline : List Added) (s : WorldStep) (new : World) : Type 0 where
     Left : new ≡ world_of correct timeline → Stepped timeline s new
     Grown : (a : Added) → event_of config (world_of correct timeline) s ≡ Ok (a.replica, a.entry.event)
         → is_correct (histories_at correct timeline) a.replica ≡ true
-        → Lawful config ring a.replica (entries_at timeline a.replica) a.entry.event a.entry.reply
+        → Lawful meaning config ring a.replica (entries_at timeline a.replica) a.entry.event a.entry.reply
         → new ≡ world_of correct (timeline ++ a ∷ []) → Stepped timeline s new
 
   stepped : (timeline : List Added) (s : WorldStep) (o : Result (ℕ × Event) WorldRefusal) (answered : WorldReply) (new : World)
       → event_of config (world_of correct timeline) s ≡ o
-      → StepsBy config ring (world_of correct timeline) o answered new → Stepped timeline s new
+      → StepsBy meaning config ring (world_of correct timeline) o answered new → Stepped timeline s new
   stepped timeline s (Err f) answered new is by = Left (by.1)
   stepped timeline s (Ok (r, e)) answered new is by =
       elim (match_cases (nat_le max_history_len (length (entries_in (world_of correct timeline) r))) _ _ by) [
@@ -221,7 +222,7 @@ module _ (config : Config) (ring : Ring) (correct : List ℕ) where
           | inl added ↦
               let a : Added = record { replica = r; entry = record { event = e; reply = added.0 } } in
               let here = names_correct config (world_of correct timeline) s r e is in
-              Grown a is here (subst (λ es. Lawful config ring r es e (added.0)) (entries_told correct timeline r here) (added.1))
+              Grown a is here (subst (λ es. Lawful meaning config ring r es e (added.0)) (entries_told correct timeline r here) (added.1))
               (added.3 ∙ world_more correct timeline a)
         ]
       ]
@@ -238,13 +239,13 @@ module _ (config : Config) (ring : Ring) (correct : List ℕ) where
   -- what a run adds
   pub record Extends (steps : List WorldStep) (front : List Added) (new : World) : Type 0 where
     pub more : List Added
-    pub runs : RunsFrom config ring correct front more
+    pub runs : RunsFrom meaning config ring correct front more
     pub caused : AreCaused steps front more
     pub is : new ≡ world_of correct (front ++ more)
 
   told_from : (all : List WorldStep) (front : List Added) (steps : List WorldStep) (answers : List WorldReply) (new : World)
       → ((s : WorldStep) → Has steps s → Has all s)
-      → Runs config ring (world_of correct front) steps answers new → Extends all front new
+      → Runs meaning config ring (world_of correct front) steps answers new → Extends all front new
   unfolding Runs RunsFrom AreCaused
   told_from all front [] [] new among runs =
       record { more = []; runs = tt; caused = tt; is = runs ∙ ap (world_of correct) (sym (append-nil front)) }
@@ -253,10 +254,10 @@ module _ (config : Config) (ring : Ring) (correct : List ℕ) where
   told_from all front (s ∷ steps) (x ∷ answers) new among runs =
       elim (stepped front s (event_of config (world_of correct front) s) x (runs.0) refl (runs.1)) [
         | Left same ↦ told_from all front steps answers new (λ t has. among t (inr has))
-            (subst (λ w. Runs config ring w steps answers new) same (runs.2))
+            (subst (λ w. Runs meaning config ring w steps answers new) same (runs.2))
         | Grown a asks is lawful grown ↦
             let rest = told_from all (front ++ a ∷ []) steps answers new (λ t has. among t (inr has))
-            (subst (λ w. Runs config ring w steps answers new) grown (runs.2)) in
+            (subst (λ w. Runs meaning config ring w steps answers new) grown (runs.2)) in
             record {
               more = a ∷ rest.more;
               runs = (is, lawful, rest.runs);
@@ -265,7 +266,8 @@ module _ (config : Config) (ring : Ring) (correct : List ℕ) where
             }
       ]
 
-  pub told : (steps : List WorldStep) (answers : List WorldReply) (new : World) → Runs config ring (beginning correct) steps answers new
+  pub told : (steps : List WorldStep) (answers : List WorldReply) (new : World)
+      → Runs meaning config ring (beginning correct) steps answers new
       → Extends steps [] new
   told steps answers new runs = told_from steps [] steps answers new (λ s has. has) runs
 
@@ -284,7 +286,7 @@ module _ (config : Config) (ring : Ring) (correct : List ℕ) where
       world_then correct (front ++ a ∷ more) n ∙ ap (world_of correct) (take-append_seam front (a ∷ more)) in
       let now : entries_in (world_of correct (front ++ a ∷ more)) a.replica ≡ entries_at front a.replica ++ a.entry
       ∷ entries_at more a.replica =
-      entries_told correct (front ++ a ∷ more) a.replica (same_correct config ring correct (front ++ a ∷ more) front a.replica ∙ is)
+      entries_told correct (front ++ a ∷ more) a.replica (same_correct meaning config ring correct (front ++ a ∷ more) front a.replica ∙ is)
       ∙ entries_at-own front a more in
       let before : entries_in (world_at (world_of correct (front ++ a ∷ more)) n) a.replica ≡ entries_at front a.replica =
       ap (λ w. entries_in w a.replica) then ∙ entries_told correct front a.replica is in
@@ -308,7 +310,8 @@ module _ (config : Config) (ring : Ring) (correct : List ℕ) where
       (none (length front) a.replica bytes u s at.order (at.entry ∙ ap Some same) spelled)
   accepted front more a is none e r same = tt
 
-  unforged : (front more : List Added) → RunsFrom config ring correct front more → NoForgery config ring (world_of correct (front ++ more))
+  unforged : (front more : List Added) → RunsFrom meaning config ring correct front more
+      → NoForgery config ring (world_of correct (front ++ more))
       → UnforgedFrom config ring correct front more
   unfolding RunsFrom UnforgedFrom
   unforged front [] runs none = tt
@@ -319,46 +322,50 @@ module _ (config : Config) (ring : Ring) (correct : List ℕ) where
   )
 
   -- a timeline's ledgers are its world's
-  refined : (timeline : List Added) → RefinesLedger config correct timeline → Refines config (world_of correct timeline)
+  refined : (timeline : List Added) → RefinesLedger meaning config correct timeline → Refines meaning config (world_of correct timeline)
   refined timeline given = record {
     ledger = λ n. (at n).0;
     grows = λ n lt.
         let one : n + 1 ≡ suc n = omega arith in
         let e = next_at n timeline (omega (arith, length-map timeline (λ (a : Added). a.replica))) in
         given.grows (take n timeline) (e.rest) (e.here) ((at n).0) ((at (n + 1)).0) (e.is) ((at n).1)
-        (subst (λ t. IsLedger config (histories_at correct t) ((at (n + 1)).0)) (ap (λ k. take k timeline) one ∙ e.longer)
+        (subst (λ t. IsLedger meaning config (histories_at correct t) ((at (n + 1)).0)) (ap (λ k. take k timeline) one ∙ e.longer)
         ((at (n + 1)).1));
-    is_ledger = λ n le. subst (λ w. IsLedger config (w.histories) ((at n).0)) (sym (world_then correct timeline n)) ((at n).1);
+    is_ledger = λ n le. subst (λ w. IsLedger meaning config (w.histories) ((at n).0)) (sym (world_then correct timeline n)) ((at n).1);
   }
     where
-      at : (n : ℕ) → (ledger : List Value) × IsLedger config (histories_at correct (take n timeline)) ledger
+      at : (n : ℕ) → (ledger : List Value) × IsLedger meaning config (histories_at correct (take n timeline)) ledger
       at n = given.is_ledger (take n timeline) (drop n timeline) (sym (take-append-drop n timeline))
 
-pub runs_refine : (config : Config) (ring : Ring) (correct : List ℕ) (steps : List WorldStep) (answers : List WorldReply) (w : World)
-    → AreReplicas config correct → Runs config ring (beginning correct) steps answers w → NoForgery config ring w → Refines config w
-runs_refine config ring correct steps answers w replicas runs none =
-    let t = told config ring correct steps answers w runs in
-    subst (Refines config) (sym (t.is))
-    (refined config ring correct (t.more)
-    (refines config ring correct replicas (t.more) (t.runs)
-    (unforged config ring correct [] (t.more) (t.runs) (subst (NoForgery config ring) (t.is) none))))
+pub runs_refine : (meaning : Meanings) (config : Config) (ring : Ring) (correct : List ℕ) (steps : List WorldStep)
+    (answers : List WorldReply) (w : World)
+    → AreReplicas config correct → Runs meaning config ring (beginning correct) steps answers w → NoForgery config ring w
+    → Refines meaning config w
+runs_refine meaning config ring correct steps answers w replicas runs none =
+    let t = told meaning config ring correct steps answers w runs in
+    subst (Refines meaning config) (sym (t.is))
+    (refined meaning config ring correct (t.more)
+    (refines meaning config ring correct replicas (t.more) (t.runs)
+    (unforged meaning config ring correct [] (t.more) (t.runs) (subst (NoForgery config ring) (t.is) none))))
 
 -- a run that goes on is one run
-pub runs_append : (config : Config) (ring : Ring) (w mid new : World) (steps more : List WorldStep) (answers others : List WorldReply)
-    → Runs config ring w steps answers mid → Runs config ring mid more others new
-    → Runs config ring w (steps ++ more) (answers ++ others) new
+pub runs_append : (meaning : Meanings) (config : Config) (ring : Ring) (w mid new : World) (steps more : List WorldStep)
+    (answers others : List WorldReply)
+    → Runs meaning config ring w steps answers mid → Runs meaning config ring mid more others new
+    → Runs meaning config ring w (steps ++ more) (answers ++ others) new
 unfolding Runs
-runs_append config ring w mid new [] more [] others first next = subst (λ v. Runs config ring v more others new) first next
-runs_append config ring w mid new [] more (a ∷ answers) others first next = absurd first
-runs_append config ring w mid new (s ∷ steps) more [] others first next = absurd first
-runs_append config ring w mid new (s ∷ steps) more (a ∷ answers) others first next =
-    (first.0, first.1, runs_append config ring (first.0) mid new steps more answers others (first.2) next)
+runs_append meaning config ring w mid new [] more [] others first next = subst (λ v. Runs meaning config ring v more others new) first next
+runs_append meaning config ring w mid new [] more (a ∷ answers) others first next = absurd first
+runs_append meaning config ring w mid new (s ∷ steps) more [] others first next = absurd first
+runs_append meaning config ring w mid new (s ∷ steps) more (a ∷ answers) others first next =
+    (first.0, first.1, runs_append meaning config ring (first.0) mid new steps more answers others (first.2) next)
 
 -- after as many entries as there are, the world of a run is as it is now
-pub world_now : (config : Config) (ring : Ring) (correct : List ℕ) (steps : List WorldStep) (answers : List WorldReply) (w : World)
-    → Runs config ring (beginning correct) steps answers w → world_at w (length w.order) ≡ w
-world_now config ring correct steps answers w runs =
-    let t = told config ring correct steps answers w runs in
+pub world_now : (meaning : Meanings) (config : Config) (ring : Ring) (correct : List ℕ) (steps : List WorldStep) (answers : List WorldReply)
+    (w : World)
+    → Runs meaning config ring (beginning correct) steps answers w → world_at w (length w.order) ≡ w
+world_now meaning config ring correct steps answers w runs =
+    let t = told meaning config ring correct steps answers w runs in
     subst (λ (v : World). world_at v (length v.order) ≡ v) (sym (t.is))
     (world_then correct (t.more) (length (replicas_of (t.more)))
     ∙ ap (world_of correct) (ap (λ n. take n (t.more)) (length-map (t.more) (λ (a : Added). a.replica)) ∙ take-length (t.more)))

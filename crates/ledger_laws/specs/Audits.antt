@@ -1,5 +1,7 @@
 -- An audit catches every fork, and histories can pass it. The examples have a cluster of four, of which replicas 0, 1 and 2
 -- hand in their histories.
+use Rattle.ledger_model.specs.Meanings.{Meanings}
+use Rattle.ledger_model.specs.Kinds.{meaning_of}
 use Rattle.std.specs.Prelude.{◌≡◌, ℕ, true, List, [], ◌∷◌, Some, slice_get}
 use Rattle.ledger_model.specs.declared.config.Config.{Config}
 use Rattle.ledger_model.specs.declared.config.AppKind.TheVariants.{KvStore}
@@ -20,8 +22,8 @@ SomeUnsent histories = (reader : ℕ) × (i : ℕ) × (signer : ℕ) × IsUnsent
 -- if two of the audited replays committed different batches at one height, some accepted statement is unsent
 abbrev pub ForkIsCaught : Type 0
 ForkIsCaught =
-    (config : Config) (ring : Ring) (histories : List History) (r q i : ℕ) (m n : History) (v w : Value)
-    → are_of_a_quorum config histories ≡ true → AreReplays config ring histories
+    (meaning : Meanings) (config : Config) (ring : Ring) (histories : List History) (r q i : ℕ) (m n : History) (v w : Value)
+    → are_of_a_quorum config histories ≡ true → AreReplays meaning config ring histories
     → history_of histories r ≡ Some m → history_of histories q ≡ Some n
     → slice_get (commits_of config r m.entries) i ≡ Some v → slice_get (commits_of config q n.entries) i ≡ Some w → (v ≡ w → ⊥)
     → SomeUnsent histories
@@ -46,7 +48,7 @@ quiet_histories = three round_entries (quiet_end ∷ []) (quiet_end ∷ quiet_en
 abbrev pub QuietHistoriesPass : Type 0
 QuietHistoriesPass =
     (are_of_a_quorum (four KvStore) quiet_histories ≡ true)
-    × AreReplays (four KvStore) [] quiet_histories
+    × AreReplays meaning_of (four KvStore) [] quiet_histories
     × NothingUnsent quiet_histories
 
 -- replicas 1 and 2 accept the report of replica 0, whose round 1 opens with this entry

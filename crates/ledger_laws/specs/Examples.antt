@@ -1,4 +1,5 @@
 -- Worked examples. A letter that names a value is the batch of one transaction, which is the letter followed by =1.
+use Rattle.ledger_model.specs.Kinds.{meaning_of}
 use Rattle.std.proofs.Common.{lit≤}
 use Rattle.std.specs.Prelude.{◌≡◌, ℕ, Bool, true, false, List, [], ◌∷◌, ◌++◌, length, replicate, Some, None, Ok, Err}
 use Rattle.ledger_model.specs.declared.config.Config.{Config}
@@ -253,8 +254,8 @@ DigitsAndChecksums =
 abbrev pub CounterCounts : Type 0
 CounterCounts =
     let block = (0x00 ∷ []) ∷ (0x01 ∷ []) ∷ (0x02 ∷ []) ∷ [] in
-    (codes Counter [] block ≡ 0 ∷ 0 ∷ 0 ∷ [])
-    × (query_reply Counter (block ∷ []) (0x63 ∷ 0x6f ∷ 0x75 ∷ 0x6e ∷ 0x74 ∷ []) 0
+    (codes meaning_of Counter [] block ≡ 0 ∷ 0 ∷ 0 ∷ [])
+    × (query_reply meaning_of Counter (block ∷ []) (0x63 ∷ 0x6f ∷ 0x75 ∷ 0x6e ∷ 0x74 ∷ []) 0
     ≡ Ok (record { height = 1; value = Some (0 ∷ 0 ∷ 0 ∷ 0 ∷ 0 ∷ 0 ∷ 0 ∷ 3 ∷ []) }))
 
 -- After the block of 0, a number below the count and a transaction of nine bytes are refused. Of 0, 0 in two bytes, and
@@ -262,17 +263,18 @@ CounterCounts =
 abbrev pub CounterChecks : Type 0
 CounterChecks =
     let block = (0x00 ∷ []) ∷ [] in
-    (check_reply Counter (block ∷ []) (0x00 ∷ 0x00 ∷ []) ≡ 2)
-    × (check_reply Counter (block ∷ []) (replicate 9 0) ≡ 1)
-    × (pool_after_block (four Counter) (block ∷ []) block ((0x00 ∷ []) ∷ (0x00 ∷ 0x00 ∷ []) ∷ (0x01 ∷ []) ∷ []) ≡ (0x01 ∷ []) ∷ [])
+    (check_reply meaning_of Counter (block ∷ []) (0x00 ∷ 0x00 ∷ []) ≡ 2)
+    × (check_reply meaning_of Counter (block ∷ []) (replicate 9 0) ≡ 1)
+    × (pool_after_block meaning_of (four Counter) (block ∷ []) block ((0x00 ∷ []) ∷ (0x00 ∷ 0x00 ∷ []) ∷ (0x01 ∷ []) ∷ []) ≡ (0x01 ∷ [])
+    ∷ [])
 
 -- a transfer of 5 from account 0 to account 1 is accepted once; then account 0 has 995 and nonce 1
 abbrev pub PursePays : Type 0
 PursePays =
     let transfer = 0x00 ∷ 0x01 ∷ 0x00 ∷ 0x00 ∷ 0x00 ∷ 0x05 ∷ 0x00 ∷ 0x00 ∷ 0x00 ∷ 0x00 ∷ [] in
     let block = transfer ∷ transfer ∷ [] in
-    (codes Purse [] block ≡ 0 ∷ 2 ∷ [])
-    × (query_reply Purse (block ∷ []) (0x00 ∷ []) 0
+    (codes meaning_of Purse [] block ≡ 0 ∷ 2 ∷ [])
+    × (query_reply meaning_of Purse (block ∷ []) (0x00 ∷ []) 0
     ≡ Ok (record { height = 1; value = Some (0x00 ∷ 0x00 ∷ 0x03 ∷ 0xe3 ∷ 0x00 ∷ 0x00 ∷ 0x00 ∷ 0x01 ∷ []) }))
 
 -- ---- histories
@@ -294,7 +296,7 @@ first_entries =
 
 -- these entries are a replay
 abbrev pub FirstEntriesReplay : Type 0
-FirstEntriesReplay = Replay (four KvStore) [] 0 first_entries
+FirstEntriesReplay = Replay meaning_of (four KvStore) [] 0 first_entries
 
 -- the frame of the first report
 abbrev pub first_frame : List ℕ
@@ -321,7 +323,7 @@ round_entries =
 
 -- these entries are a replay
 abbrev pub RoundEntriesReplay : Type 0
-RoundEntriesReplay = Replay (four KvStore) [] 0 round_entries
+RoundEntriesReplay = Replay meaning_of (four KvStore) [] 0 round_entries
 
 -- what was proposed and opened, and which report was read, is in the log of its height and in no other log
 abbrev pub LogOfARound : Type 0
@@ -357,4 +359,4 @@ world_after = record {
 
 -- these steps, with these replies, are a run that ends in this world
 abbrev pub WorldRuns : Type 0
-WorldRuns = Runs (four KvStore) [] (beginning (0 ∷ 2 ∷ 3 ∷ [])) world_steps world_answers world_after
+WorldRuns = Runs meaning_of (four KvStore) [] (beginning (0 ∷ 2 ∷ 3 ∷ [])) world_steps world_answers world_after

@@ -1,5 +1,6 @@
 -- Histories that lock, decide and commit: of four replicas, 0, 1 and 2 are correct. Each proposes [a=1]. Replica 1 owns phase 1: it reads
 -- the reports of 0 and 2, locks [a=1], reads their acknowledgements, decides, and runs the block.
+use Rattle.ledger_model.specs.Kinds.{meaning_of}
 use Rattle.std.specs.Prelude.{◌≡◌, ℕ, ◌≤◌, ◌&&◌, true, false, List, [], ◌∷◌, Some, Ok}
 use Rattle.ledger_model.specs.declared.config.AppKind.TheVariants.{KvStore}
 use Rattle.ledger_model.specs.declared.version.Version.TheVariants.{One}
@@ -98,7 +99,7 @@ plain_histories sign = three (other_entries sign 0) (owner_entries sign) (other_
 abbrev pub PlainRunCommits : Type 0
 PlainRunCommits =
     (ring : Ring) (sign : Signing) → AreSendable ring sign
-    → AreCorrect (four KvStore) ring (plain_histories sign)
+    → AreCorrect meaning_of (four KvStore) ring (plain_histories sign)
     × ((h : ℕ) → ReadsBacked (four KvStore) (plain_histories sign) h)
     × AllProposed (four KvStore) (plain_histories sign) 1 a
     × (3 ≤ number_of (four KvStore) (λ r. is_correct (plain_histories sign) r && took (log_in (four KvStore) (plain_histories sign) 1 r) a 1))

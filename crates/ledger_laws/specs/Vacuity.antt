@@ -1,5 +1,7 @@
 -- The laws are not vacuous. They exclude something: there are histories that no ledger explains. Their premises can be met:
 -- there are runs in which nothing is forged. The examples have a cluster of four, of which the replicas 0, 1 and 2 are correct.
+use Rattle.ledger_model.specs.Meanings.{Meanings}
+use Rattle.ledger_model.specs.Kinds.{meaning_of}
 use Rattle.std.specs.Prelude.{◌≡◌, ℕ, ◌+◌, ◌<◌, true, false, List, [], ◌∷◌, ◌++◌, length, replicate, Result, Some, Ok, Err, slice_get}
 use Rattle.ledger_model.specs.declared.config.Config.{Config}
 use Rattle.ledger_model.specs.declared.version.Version.TheVariants.{One}
@@ -34,27 +36,29 @@ use Rattle.ledger_model.specs.Timelines.{AreReplicas}
 use Rattle.ledger_laws.specs.Examples.{four, a, b, by_signer, quiet_end}
 
 -- no list of batches is the ledger of these histories
-abbrev pub NoLedger : Config → List History → Type 0
-NoLedger config histories = (ledger : List Value) → IsLedger config histories ledger → ⊥
+abbrev pub NoLedger : Meanings → Config → List History → Type 0
+NoLedger meaning config histories = (ledger : List Value) → IsLedger meaning config histories ledger → ⊥
 
 -- if the histories of a world after all of its entries have no ledger, the world is not the run of a ledger
 abbrev pub NoRunWithoutLedger : Type 0
 NoRunWithoutLedger =
-    (config : Config) (w : World) → world_at w (length w.order) ≡ w → NoLedger config w.histories → Refines config w → ⊥
+    (meaning : Meanings) (config : Config) (w : World) → world_at w (length w.order) ≡ w → NoLedger meaning config w.histories
+    → Refines meaning config w → ⊥
 
 -- if some entry of a world rewrites its ledger, the world is not the run of a ledger
 abbrev pub NoRunThatRewrites : Type 0
 NoRunThatRewrites =
-    (config : Config) (w : World) (n : ℕ) (ledger later : List Value)
+    (meaning : Meanings) (config : Config) (w : World) (n : ℕ) (ledger later : List Value)
     → n < length w.order
-    → IsLedger config (world_at w n).histories ledger → IsLedger config (world_at w (n + 1)).histories later → (Begins ledger later → ⊥)
-    → Refines config w → ⊥
+    → IsLedger meaning config (world_at w n).histories ledger → IsLedger meaning config (world_at w (n + 1)).histories later
+    → (Begins ledger later → ⊥)
+    → Refines meaning config w → ⊥
 
 -- histories have at most one ledger, which is what some correct replica committed
 abbrev pub LedgerIsUnique : Type 0
 LedgerIsUnique =
-    (config : Config) (histories : List History) (ledger other : List Value)
-    → IsLedger config histories ledger → IsLedger config histories other → ledger ≡ other
+    (meaning : Meanings) (config : Config) (histories : List History) (ledger other : List Value)
+    → IsLedger meaning config histories ledger → IsLedger meaning config histories other → ledger ≡ other
 
 -- ---- a history that commits one batch
 
@@ -117,7 +121,7 @@ commits own v result =
 
 -- the result of the application run alone for the first block
 abbrev pub first_result : Value → BlockResult
-first_result v = block_reply KvStore [] v
+first_result v = block_reply meaning_of KvStore [] v
 
 -- the histories of the correct replicas 0, 1 and 2
 abbrev pub three : List Entry → List Entry → List Entry → List History
@@ -132,10 +136,10 @@ three of_0 of_1 of_2 = record { replica = 0; entries = of_0 } ∷ record { repli
 -- if two correct replicas committed different batches at one height, their histories have no ledger
 abbrev pub ForkHasNoLedger : Type 0
 ForkHasNoLedger =
-    (config : Config) (histories : List History) (r q i : ℕ) (m n : History) (v w : Value)
+    (meaning : Meanings) (config : Config) (histories : List History) (r q i : ℕ) (m n : History) (v w : Value)
     → history_of histories r ≡ Some m → history_of histories q ≡ Some n
     → slice_get (commits_of config r m.entries) i ≡ Some v → slice_get (commits_of config q n.entries) i ≡ Some w → (v ≡ w → ⊥)
-    → NoLedger config histories
+    → NoLedger meaning config histories
 
 -- replica 1 commits [a=1] and replica 2 commits [b=1] at height 1, each with the application's own result
 abbrev pub forked : List History
@@ -151,10 +155,11 @@ abbrev pub ForkExample : Type 0
 ForkExample =
     (commits_of (four KvStore) 1 (commits a a (first_result a)) ≡ a ∷ [])
     × (commits_of (four KvStore) 2 (commits b b (first_result b)) ≡ b ∷ [])
-    × NoLedger (four KvStore) forked
-    × (Refines (four KvStore) forked_world → ⊥)
+    × NoLedger meaning_of (four KvStore) forked
+    × (Refines meaning_of (four KvStore) forked_world → ⊥)
     × ((ring : Ring) (steps : List WorldStep) (answers : List WorldReply)
-    → Runs (four KvStore) ring (beginning (0 ∷ 1 ∷ 2 ∷ [])) steps answers forked_world → NoForgery (four KvStore) ring forked_world → ⊥)
+    → Runs meaning_of (four KvStore) ring (beginning (0 ∷ 1 ∷ 2 ∷ [])) steps answers forked_world
+    → NoForgery (four KvStore) ring forked_world → ⊥)
 
 -- ---- a wrong reply
 
@@ -162,19 +167,20 @@ ForkExample =
 abbrev pub WrongBlockHasNoLedger : Type 0
 WrongBlockHasNoLedger =
     (result : BlockResult) → (result ≡ first_result a → ⊥)
-    → NoLedger (four KvStore) (three [] (commits a a result) (commits a a (first_result a)))
+    → NoLedger meaning_of (four KvStore) (three [] (commits a a result) (commits a a (first_result a)))
 
 -- Replicas 1 and 2 commit [a=1], but replica 1 answers a query otherwise than the application run alone would then.
 abbrev pub WrongQueryHasNoLedger : Type 0
 WrongQueryHasNoLedger =
-    (key : List ℕ) (given : Result QueryAnswer NotHeld) → (given ≡ query_reply KvStore (a ∷ []) key 0 → ⊥)
-    → NoLedger (four KvStore) (three [] (commits a a (first_result a) ++ answers_query key given ∷ []) (commits a a (first_result a)))
+    (key : List ℕ) (given : Result QueryAnswer NotHeld) → (given ≡ query_reply meaning_of KvStore (a ∷ []) key 0 → ⊥)
+    → NoLedger meaning_of (four KvStore) (three [] (commits a a (first_result a) ++ answers_query key given ∷ [])
+    (commits a a (first_result a)))
 
 -- replica 2 refuses a transaction with another code than the application run alone
 abbrev pub WrongCodeHasNoLedger : Type 0
 WrongCodeHasNoLedger =
-    (config : Config) (tx : List ℕ) (code : ℕ) → (code ≡ check_reply config.kind [] tx → ⊥)
-    → NoLedger config (three [] [] (rejects tx code ∷ []))
+    (meaning : Meanings) (config : Config) (tx : List ℕ) (code : ℕ) → (code ≡ check_reply meaning config.kind [] tx → ⊥)
+    → NoLedger meaning config (three [] [] (rejects tx code ∷ []))
 
 -- a transaction joins the pool
 abbrev pub takes : List ℕ → Entry
@@ -183,23 +189,24 @@ takes tx = record { event = event.Submit tx; reply = reply.Submitted (Ok tt) }
 -- replica 2 takes a transaction that the application run alone refuses
 abbrev pub TakenRefusalHasNoLedger : Type 0
 TakenRefusalHasNoLedger =
-    (config : Config) (tx : List ℕ) → (check_reply config.kind [] tx ≡ 0 → ⊥) → NoLedger config (three [] [] (takes tx ∷ []))
+    (meaning : Meanings) (config : Config) (tx : List ℕ) → (check_reply meaning config.kind [] tx ≡ 0 → ⊥)
+    → NoLedger meaning config (three [] [] (takes tx ∷ []))
 
 -- ---- another value than the common proposal
 
 -- a committed batch that differs from the one that all correct replicas proposed for its height excludes every ledger
 abbrev pub UnproposedBatchHasNoLedger : Type 0
 UnproposedBatchHasNoLedger =
-    (config : Config) (histories : List History) (r h : ℕ) (m : History) (v w : Value)
+    (meaning : Meanings) (config : Config) (histories : List History) (r h : ℕ) (m : History) (v w : Value)
     → history_of histories r ≡ Some m → slice_get (commits_of config r m.entries) h ≡ Some w
     → AllProposed config histories (h + 1) v → (w ≡ v → ⊥)
-    → NoLedger config histories
+    → NoLedger meaning config histories
 
 -- all three propose [a=1], and replica 1 commits [b=1]
 abbrev pub UnproposedBatchExample : Type 0
 UnproposedBatchExample =
     (commits_of (four KvStore) 1 (commits a b (first_result b)) ≡ b ∷ [])
-    × NoLedger (four KvStore) (three (proposes a ∷ []) (commits a b (first_result b)) (proposes a ∷ []))
+    × NoLedger meaning_of (four KvStore) (three (proposes a ∷ []) (commits a b (first_result b)) (proposes a ∷ []))
 
 -- ---- similar histories without a fault
 
@@ -208,8 +215,9 @@ UnproposedBatchExample =
 abbrev pub AgreementHasLedger : Type 0
 AgreementHasLedger =
     (key : List ℕ)
-    → IsLedger (four KvStore)
-    (three [] (commits a a (first_result a) ++ answers_query key (query_reply KvStore (a ∷ []) key 0) ∷ []) (commits a a (first_result a)))
+    → IsLedger meaning_of (four KvStore)
+    (three [] (commits a a (first_result a) ++ answers_query key (query_reply meaning_of KvStore (a ∷ []) key 0) ∷ [])
+    (commits a a (first_result a)))
     (a ∷ [])
 
 -- ---- a floor
@@ -229,7 +237,7 @@ FloorExample =
     × (retire_reply (four KvStore) 1 before 3 ≡ Err kept.NotCommitted)
     × (is_open (log_of (four KvStore) 1 1 before) ≡ true)
     × (is_open (log_of (four KvStore) 1 1 after) ≡ false)
-    × (propose_reply (four KvStore) 1 after 1 ≡ Err closed.Retired)
+    × (propose_reply meaning_of (four KvStore) 1 after 1 ≡ Err closed.Retired)
 
 -- ---- what liars can forge
 
@@ -248,8 +256,8 @@ NoInjectedForgery config ring steps w =
 -- was accepted at all.
 abbrev pub OnlyInjectionsForge : Type 0
 OnlyInjectionsForge =
-    (config : Config) (ring : Ring) (correct : List ℕ) (steps : List WorldStep) (answers : List WorldReply) (w : World)
-    → Runs config ring (beginning correct) steps answers w → NoInjectedForgery config ring steps w
+    (meaning : Meanings) (config : Config) (ring : Ring) (correct : List ℕ) (steps : List WorldStep) (answers : List WorldReply) (w : World)
+    → Runs meaning config ring (beginning correct) steps answers w → NoInjectedForgery config ring steps w
     → NoForgery config ring w
 
 -- no step injects bytes
@@ -259,13 +267,13 @@ NoInjection steps = (r : ℕ) (bytes : List ℕ) → Has steps (step.Inject r by
 -- if no step injects bytes, nothing that was accepted was forged, whatever the signatures are
 abbrev pub SilentRunsForgeNothing : Type 0
 SilentRunsForgeNothing =
-    (config : Config) (ring : Ring) (correct : List ℕ) (steps : List WorldStep) (answers : List WorldReply) (w : World)
-    → Runs config ring (beginning correct) steps answers w → NoInjection steps
+    (meaning : Meanings) (config : Config) (ring : Ring) (correct : List ℕ) (steps : List WorldStep) (answers : List WorldReply) (w : World)
+    → Runs meaning config ring (beginning correct) steps answers w → NoInjection steps
     → NoForgery config ring w
 
 -- a run in which no step injects bytes is a run of one sequential ledger
 abbrev pub SilentRunsRefine : Type 0
 SilentRunsRefine =
-    (config : Config) (ring : Ring) (correct : List ℕ) (steps : List WorldStep) (answers : List WorldReply) (w : World)
-    → AreReplicas config correct → Runs config ring (beginning correct) steps answers w → NoInjection steps
-    → Refines config w
+    (meaning : Meanings) (config : Config) (ring : Ring) (correct : List ℕ) (steps : List WorldStep) (answers : List WorldReply) (w : World)
+    → AreReplicas config correct → Runs meaning config ring (beginning correct) steps answers w → NoInjection steps
+    → Refines meaning config w

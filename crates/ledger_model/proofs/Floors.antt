@@ -1,4 +1,5 @@
 -- A replica's floor: what a lawful reply that raises it says, and which heights are then retired.
+use Rattle.ledger_model.specs.Meanings.{Meanings}
 use Rattle.std.proofs.Common.{◌≡◌, ℕ, ◌+◌, ◌<◌, ◌≤◌, Bool, true, false, ◌||◌, cond, ◌⊎◌, inl, inr, List, [], ◌∷◌, ◌++◌, length, refl}
 use Rattle.std.proofs.Common.{sym, ap, subst, ◌∙◌, append_assoc, arith}
 use Rattle.std.specs.Prelude.{nat_eq, nat_lt, nat_le, Option, Some, None, Ok}
@@ -60,16 +61,17 @@ new_floor config id front f g e =
     )
 
 -- a lawful reply leaves the floor as it was, or gives a new one
-pub floor_cases : (config : Config) (ring : Ring) (id : ℕ) (front : List Entry) (e : Event) (r : Reply) → Lawful config ring id front e r
+pub floor_cases : (meaning : Meanings) (config : Config) (ring : Ring) (id : ℕ) (front : List Entry) (e : Event) (r : Reply)
+    → Lawful meaning config ring id front e r
     → (floor_step (floor_of front) r ≡ floor_of front) ⊎ NewFloor config id front (floor_step (floor_of front) r)
-floor_cases config ring id front (event.Retire f) (reply.Retired (Ok g)) lawful = inr ((new_floor config id front f g lawful).1)
-floor_cases config ring id front (event.Submit x) (reply.Retired (Ok g)) lawful = absurd lawful
-floor_cases config ring id front (event.Propose x) (reply.Retired (Ok g)) lawful = absurd lawful
-floor_cases config ring id front (event.Deliver x) (reply.Retired (Ok g)) lawful = absurd lawful
-floor_cases config ring id front event.RoundEnd (reply.Retired (Ok g)) lawful = absurd lawful
-floor_cases config ring id front event.Execute (reply.Retired (Ok g)) lawful = absurd lawful
-floor_cases config ring id front (event.Query x y) (reply.Retired (Ok g)) lawful = absurd lawful
-floor_cases config ring id front e r lawful = inl refl
+floor_cases meaning config ring id front (event.Retire f) (reply.Retired (Ok g)) lawful = inr ((new_floor config id front f g lawful).1)
+floor_cases meaning config ring id front (event.Submit x) (reply.Retired (Ok g)) lawful = absurd lawful
+floor_cases meaning config ring id front (event.Propose x) (reply.Retired (Ok g)) lawful = absurd lawful
+floor_cases meaning config ring id front (event.Deliver x) (reply.Retired (Ok g)) lawful = absurd lawful
+floor_cases meaning config ring id front event.RoundEnd (reply.Retired (Ok g)) lawful = absurd lawful
+floor_cases meaning config ring id front event.Execute (reply.Retired (Ok g)) lawful = absurd lawful
+floor_cases meaning config ring id front (event.Query x y) (reply.Retired (Ok g)) lawful = absurd lawful
+floor_cases meaning config ring id front e r lawful = inl refl
 
 -- the reply raises the floor above the height
 abbrev pub raises_above : ℕ → Reply → Bool
@@ -105,9 +107,9 @@ retired_if : (b : Bool) (f : ℕ) → is_retired (cond b (Retired f ∷ []) []) 
 retired_if true f = refl
 retired_if false f = refl
 
-module _ (config : Config) (ring : Ring) (id h : ℕ) where
+module _ (meaning : Meanings) (config : Config) (ring : Ring) (id h : ℕ) where
   -- the notes of a lawful entry retire the height if its reply raises the floor above the height
-  notes_retire : (front : List Entry) (log : List Note) (e : Event) (r : Reply) → Lawful config ring id front e r
+  notes_retire : (front : List Entry) (log : List Note) (e : Event) (r : Reply) → Lawful meaning config ring id front e r
       → is_retired (notes_of config id h log e r) ≡ raises_above h r
   unfolding notes_of
   notes_retire front log (event.Retire f) (reply.Retired (Ok g)) lawful = retired_if (nat_lt h g) g
@@ -125,9 +127,9 @@ module _ (config : Config) (ring : Ring) (id h : ℕ) where
   notes_retire front log e r lawful = refl
 
   -- the height is below the new floor if it was below the old one, or if the reply raises the floor above it
-  below_step : (front : List Entry) (e : Event) (r : Reply) → Lawful config ring id front e r
+  below_step : (front : List Entry) (e : Event) (r : Reply) → Lawful meaning config ring id front e r
       → nat_lt h (floor_step (floor_of front) r) ≡ (nat_lt h (floor_of front) || raises_above h r)
-  below_step front e r lawful = after r (floor_cases config ring id front e r lawful)
+  below_step front e r lawful = after r (floor_cases meaning config ring id front e r lawful)
     where
       or_nothing : (b : Bool) → b ≡ (b || false)
       or_nothing true = refl
@@ -148,14 +150,14 @@ module _ (config : Config) (ring : Ring) (id h : ℕ) where
       ]
       after r cases = or_nothing (nat_lt h (floor_of front))
 
-  retired_step : (front : List Entry) (e : Entry) → Lawful config ring id front e.event e.reply
+  retired_step : (front : List Entry) (e : Entry) → Lawful meaning config ring id front e.event e.reply
       → is_retired (log_of config id h front) ≡ nat_lt h (floor_of front)
       → is_retired (log_of config id h (front ++ e ∷ [])) ≡ nat_lt h (floor_of (front ++ e ∷ []))
   unfolding log_of
   retired_step front e lawful is =
       let log : List Note = log_after config id h [] front in
       let notes = notes_retire front log (e.event) (e.reply) lawful in
-      ap is_retired (log_of-snoc config ring id h [] front e)
+      ap is_retired (log_of-snoc meaning config ring id h [] front e)
       ∙ is_retired-append log (notes_of config id h log e.event e.reply)
       ∙ ap (λ b. b || is_retired (notes_of config id h log e.event e.reply)) is
       ∙ ap (λ b. nat_lt h (floor_of front) || b) notes
@@ -163,24 +165,26 @@ module _ (config : Config) (ring : Ring) (id h : ℕ) where
       ∙ ap (nat_lt h) (sym (floor_of-snoc front e))
 
 -- what holds of no entry, and of one lawful entry more, holds of a lawful history
-pub each_entry : (config : Config) (ring : Ring) (id : ℕ) (P : List Entry → Type 0) → P []
-    → ((front : List Entry) (e : Entry) → Follows config ring id (front ++ e ∷ []) → Follows config ring id front
-    → Lawful config ring id front e.event e.reply → P front → P (front ++ e ∷ []))
-    → (entries : List Entry) → Follows config ring id entries → P entries
+pub each_entry : (meaning : Meanings) (config : Config) (ring : Ring) (id : ℕ) (P : List Entry → Type 0) → P []
+    → ((front : List Entry) (e : Entry) → Follows meaning config ring id (front ++ e ∷ []) → Follows meaning config ring id front
+    → Lawful meaning config ring id front e.event e.reply → P front → P (front ++ e ∷ []))
+    → (entries : List Entry) → Follows meaning config ring id entries → P entries
 unfolding Follows FollowsFrom
-each_entry config ring id P none more entries follows = from [] entries tt none follows
+each_entry meaning config ring id P none more entries follows = from [] entries tt none follows
   where
-    from : (front es : List Entry) → Follows config ring id front → P front → FollowsFrom config ring id front es → P (front ++ es)
+    from : (front es : List Entry) → Follows meaning config ring id front → P front → FollowsFrom meaning config ring id front es
+        → P (front ++ es)
     from front [] front_follows here follows = subst P (sym (append-nil front)) here
     from front (e ∷ es) front_follows here follows =
-        let next = follows_snoc config ring id [] front e front_follows (follows.0) in
+        let next = follows_snoc meaning config ring id [] front e front_follows (follows.0) in
         subst P (append_assoc front (e ∷ []) es)
         (from (front ++ e ∷ []) es next (more front e next front_follows (follows.0) here) (follows.1))
 
 -- exactly the heights below the floor are retired
-pub retired_below : (config : Config) (ring : Ring) (id h : ℕ) → 1 ≤ h → (entries : List Entry) → Follows config ring id entries
+pub retired_below : (meaning : Meanings) (config : Config) (ring : Ring) (id h : ℕ) → 1 ≤ h → (entries : List Entry)
+    → Follows meaning config ring id entries
     → is_retired (log_of config id h entries) ≡ nat_lt h (floor_of entries)
 unfolding log_of log_after floor_of
-retired_below config ring id h some entries follows =
-    each_entry config ring id (λ es. is_retired (log_of config id h es) ≡ nat_lt h (floor_of es)) (sym (le-ltb h 1 some))
-    (λ front e next before lawful is. retired_step config ring id h front e lawful is) entries follows
+retired_below meaning config ring id h some entries follows =
+    each_entry meaning config ring id (λ es. is_retired (log_of config id h es) ≡ nat_lt h (floor_of es)) (sym (le-ltb h 1 some))
+    (λ front e next before lawful is. retired_step meaning config ring id h front e lawful is) entries follows

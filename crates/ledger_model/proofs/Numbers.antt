@@ -1,6 +1,6 @@
 -- A number names one application.
 use Rattle.std.proofs.Common.{◌≡◌, ℕ, Some, cond, true, false, Bool, refl, sym, ap, ◌∙◌, None}
-use Rattle.std.specs.Prelude.{nat_eq, Option, ◌==◌}
+use Rattle.std.specs.Prelude.{◌==◌}
 use Rattle.std.proofs.lemmas.Bool.{eqb-true}
 use Rattle.ledger_model.specs.declared.config.AppKind.{AppKind}
 use Rattle.ledger_model.specs.declared.config.AppKind.TheVariants.{KvStore, Counter, Purse}

@@ -1,6 +1,7 @@
 -- What an audit finds in histories that were handed in: too few of them, one that isn't a replay, a statement that a
 -- replica accepted and its signer never sent, or none of these. It needs no order between replicas: "before" is
 -- "anywhere in the signer's history".
+use Rattle.ledger_model.specs.Meanings.{Meanings}
 use Rattle.std.specs.Prelude.{◌≡◌, ℕ, ◌+◌, ◌<◌, ◌==◌, nat_lt, nat_le, Bool, true, false, not, ◌&&◌, ◌||◌, IsTrue, List, [], ◌∷◌, ◌++◌}
 use Rattle.std.specs.Prelude.{map, take, filter, length, slice_get, Option, Some, None, Ok, if◌then◌else◌}
 use Rattle.std.specs.List.{filter_map, list_any, list_all}
@@ -14,7 +15,7 @@ use Rattle.ledger_model.specs.declared.reply.Reply.TheVariants as reply
 use Rattle.ledger_model.specs.declared.statement.SignedStatement.{SignedStatement}
 use Rattle.ledger_model.specs.declared.statement.Statement.{Statement}
 use Rattle.ledger_model.specs.declared.statement.Statement.TheVariants as statement
-use Rattle.ledger_model.specs.Values.{Value}
+use Rattle.ledger_model.specs.Values.{Value, same_bytes}
 use Rattle.ledger_model.specs.Rounds.{place_of, release_place}
 use Rattle.ledger_model.specs.Notes.{Has, signer_of}
 use Rattle.ledger_model.specs.Spelling.{statement_bytes}
@@ -22,7 +23,6 @@ use Rattle.ledger_model.specs.Reading.{reading}
 use Rattle.ledger_model.specs.Rules.{Ring}
 use Rattle.ledger_model.specs.Lawful.{Replay, is_opened}
 use Rattle.ledger_model.specs.Groups.{history_of}
-use Rattle.ledger_model.specs.Applications.{same_bytes}
 use Rattle.ledger_model.specs.Pools.{is_among}
 use Rattle.ledger_model.specs.Worlds.{IsLedger}
 
@@ -41,21 +41,21 @@ are_of_a_quorum config histories =
     && all_differ (map (λ (m : History). m.replica) histories)
 
 -- each history is a replay
-abbrev pub AreReplays : Config → Ring → List History → Type 0
-AreReplays config ring histories = (r : ℕ) (m : History) → history_of histories r ≡ Some m → Replay config ring r m.entries
+abbrev pub AreReplays : Meanings → Config → Ring → List History → Type 0
+AreReplays meaning config ring histories = (r : ℕ) (m : History) → history_of histories r ≡ Some m → Replay meaning config ring r m.entries
 
 -- replica r's entry i is the first that isn't lawful after those before it, or sends something that isn't signed
-pub record BreaksAt (config : Config) (ring : Ring) (histories : List History) (r i : ℕ) : Type 0 where
+pub record BreaksAt (meaning : Meanings) (config : Config) (ring : Ring) (histories : List History) (r i : ℕ) : Type 0 where
   pub history : History
   pub of : history_of histories r ≡ Some history
   pub inside : i < length history.entries
-  pub before : Replay config ring r (take i history.entries)
-  pub broken : Replay config ring r (take (i + 1) history.entries) → ⊥
+  pub before : Replay meaning config ring r (take i history.entries)
+  pub broken : Replay meaning config ring r (take (i + 1) history.entries) → ⊥
 
 -- r is the least replica whose history isn't a replay, and its entry i is the first that isn't lawful after those before it
-pub record IsFirstBreak (config : Config) (ring : Ring) (histories : List History) (r i : ℕ) : Type 0 where
-  pub breaks : BreaksAt config ring histories r i
-  pub least : (q : ℕ) (m : History) → q < r → history_of histories q ≡ Some m → Replay config ring q m.entries
+pub record IsFirstBreak (meaning : Meanings) (config : Config) (ring : Ring) (histories : List History) (r i : ℕ) : Type 0 where
+  pub breaks : BreaksAt meaning config ring histories r i
+  pub least : (q : ℕ) (m : History) → q < r → history_of histories q ≡ Some m → Replay meaning config ring q m.entries
 
 -- ---- what the histories send, and what they accept
 
@@ -131,9 +131,9 @@ NothingUnsent histories = (reader i signer : ℕ) → IsUnsent histories reader 
 -- presumed of signatures.
 abbrev pub AuditedHistoriesHaveLedger : Type 0
 AuditedHistoriesHaveLedger =
-    (config : Config) (ring : Ring) (histories : List History)
-    → are_of_a_quorum config histories ≡ true → AreReplays config ring histories → NothingUnsent histories
-    → (ledger : List Value) × IsLedger config histories ledger
+    (meaning : Meanings) (config : Config) (ring : Ring) (histories : List History)
+    → are_of_a_quorum config histories ≡ true → AreReplays meaning config ring histories → NothingUnsent histories
+    → (ledger : List Value) × IsLedger meaning config histories ledger
 
 -- ---- receipts
 

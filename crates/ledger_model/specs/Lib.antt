@@ -18,6 +18,8 @@ pub mod Logs
 pub mod Rules
 pub mod Causes
 pub mod Places
+pub mod Meanings
+pub mod Kinds
 pub mod Applications
 pub mod Replies
 pub mod Pools

@@ -4,8 +4,7 @@ use Rattle.std.specs.List.{list_any}
 use Rattle.ledger_model.specs.declared.reply.SubmitRefusal.{SubmitRefusal}
 use Rattle.ledger_model.specs.declared.reply.SubmitRefusal.TheVariants as refusal
 use Rattle.ledger_model.specs.Limits.{max_tx_len, max_pool_len}
-use Rattle.ledger_model.specs.Values.{Value}
-use Rattle.ledger_model.specs.Applications.{same_bytes}
+use Rattle.ledger_model.specs.Values.{Value, same_bytes}
 
 -- the transaction is one of these
 abbrev pub is_among : List (List ℕ) → List ℕ → Bool

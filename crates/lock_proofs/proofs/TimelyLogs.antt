@@ -1,4 +1,5 @@
 -- The log of a lawful history is timely.
+use Rattle.ledger_model.specs.Meanings.{Meanings}
 use Rattle.std.proofs.Common.{◌≡◌, ℕ, ◌+◌, Bool, true, false, not, cond, inl, inr, List, [], ◌∷◌, ◌++◌, refl, sym, subst, ◌∙◌, append_assoc}
 use Rattle.std.proofs.Common.{arith}
 use Rattle.std.specs.Prelude.{map, nat_eq, nat_lt, Option, Some, None, Ok}
@@ -94,7 +95,7 @@ read_of_phase d true u h c s (inl e) place =
     let same : u ≡ as_statement s = cc in
     lock_phase c s (subst (λ x. has_phase c x.statement ≡ true) same (subst (λ x. has_phase x u.statement ≡ true) round (h refl))) place
 
-module _ (config : Config) (ring : Ring) (id h : ℕ) where
+module _ (meaning : Meanings) (config : Config) (ring : Ring) (id h : ℕ) where
   accepted_phase : (log : List Note) (s : SignedStatement) (u : Unit {0}) → answer_to config ring log s ≡ Ok u
       → has_phase (clock_of log) s.statement ≡ true
   unfolding causes
@@ -125,7 +126,7 @@ module _ (config : Config) (ring : Ring) (id h : ℕ) where
       let at : clock_of log + 1 ≡ round_at lock_place s.lock.phase = made.0 in
       omega arith
 
-  entry_of_phase : (front : List Entry) (e : Event) (r : Reply) → Lawful config ring id front e r
+  entry_of_phase : (front : List Entry) (e : Event) (r : Reply) → Lawful meaning config ring id front e r
       → AreOfPhase (notes_of config id h (log_of config id h front) e r)
   unfolding notes_of
   entry_of_phase front (event.Propose n) (reply.Proposed (Ok v)) lawful = proposed_of_phase (nat_eq n h) v
@@ -144,7 +145,7 @@ module _ (config : Config) (ring : Ring) (id h : ℕ) where
   joined_of_phase log notes before now c s has place =
       elim (has_cases log notes (Read c (as_statement s)) has) [ inl old ↦ before c s old place | inr new ↦ now c s new place ]
 
-  replay_of_phase : (front es : List Entry) → AreOfPhase (log_of config id h front) → ReplaysFrom config ring id front es
+  replay_of_phase : (front es : List Entry) → AreOfPhase (log_of config id h front) → ReplaysFrom meaning config ring id front es
       → AreOfPhase (log_of config id h (front ++ es))
   unfolding log_of ReplaysFrom
   replay_of_phase front [] before replays = subst (λ es. AreOfPhase (log_of config id h es)) (sym (append-nil front)) before
@@ -152,7 +153,7 @@ module _ (config : Config) (ring : Ring) (id h : ℕ) where
       let more : AreOfPhase (log_of config id h front ++ notes_of config id h (log_of config id h front) e.event e.reply) =
       joined_of_phase (log_of config id h front) (notes_of config id h (log_of config id h front) e.event e.reply) before
       (entry_of_phase front (e.event) (e.reply) (replays.0)) in
-      let next = subst AreOfPhase (sym (log_of-snoc config ring id h [] front e)) more in
+      let next = subst AreOfPhase (sym (log_of-snoc meaning config ring id h [] front e)) more in
       subst (λ xs. AreOfPhase (log_of config id h xs)) (append_assoc front (e ∷ []) es)
       (replay_of_phase (front ++ e ∷ []) es next (replays.2))
 
@@ -162,7 +163,7 @@ begins_empty = record { timely = record { past = λ c s has. absurd has; of_phas
 
 pub logs_are_timely : LogsAreTimely
 unfolding Replay log_of log_after AreOfPhase
-logs_are_timely config ring id h entries replays = record {
-  past = (replay_good config ring id h entries replays).past;
-  of_phase = replay_of_phase config ring id h [] entries none_of_phase replays;
+logs_are_timely meaning config ring id h entries replays = record {
+  past = (replay_good meaning config ring id h entries replays).past;
+  of_phase = replay_of_phase meaning config ring id h [] entries none_of_phase replays;
 }

@@ -1,4 +1,5 @@
 -- The laws by which the table of held locks keeps step with the log.
+use Rattle.ledger_model.specs.Meanings.{Meanings}
 use Rattle.std.specs.Prelude.{◌≡◌, ◌≤◌, ℕ, ◌==◌, Bool, false, true, ◌&&◌, List, [], ◌∷◌, ◌++◌, map, None}
 use Rattle.ledger_model.specs.declared.config.Config.{Config}
 use Rattle.ledger_model.specs.declared.history.Entry.{Entry}
@@ -71,5 +72,5 @@ StaysTimely = (log : List Note) (note : Note) → IsTimely log → is_on_time (c
 -- the log of a lawful history is timely at each height
 abbrev pub LogsAreTimely : Type 0
 LogsAreTimely =
-    (config : Config) (ring : Ring) (id h : ℕ) (entries : List Entry) → Replay config ring id entries
+    (meaning : Meanings) (config : Config) (ring : Ring) (id h : ℕ) (entries : List Entry) → Replay meaning config ring id entries
     → IsTimely (log_of config id h entries)

@@ -1,4 +1,5 @@
 -- A step preserves the invariant of a replica's type.
+use Rattle.ledger_model.specs.Meanings.{Meanings}
 use Rattle.std.proofs.Common.{◌≡◌, ◌+◌, ◌<◌, ◌≤◌, Bool, true, false, ◌&&◌, ◌||◌, cond, List, [], ◌∷◌, ◌++◌, length, refl, sym, ap, subst}
 use Rattle.std.proofs.Common.{◌∙◌, length-append, arith}
 use Rattle.std.specs.Prelude.{ℕ, nat_lt, not, IsTrue, IsErrAnd, IfErr, Result, Ok, Err}
@@ -32,18 +33,20 @@ use Rattle.locked_replica.specs.States.{StateView, IsReplica, RunsAlone, replica
 use Rattle.locked_replica.proofs.StoredEntries.{entries_more, stored_more}
 
 -- the history with the entry is a replay
-pub replay_on : (old new : ReplayView) (before after : List Entry) (e : Entry) → Replay old.config old.ring old.id before
-    → MatchesHistory old before → IsStep old e.event e.reply new
-    → after ≡ before ++ e ∷ [] → Replay old.config old.ring old.id after
+pub replay_on : (meaning : Meanings) (old new : ReplayView) (before after : List Entry) (e : Entry)
+    → Replay meaning old.config old.ring old.id before
+    → MatchesHistory meaning old before → IsStep meaning old e.event e.reply new
+    → after ≡ before ++ e ∷ [] → Replay meaning old.config old.ring old.id after
 unfolding Replay
-replay_on old new before after e replay was step is =
+replay_on meaning old new before after e replay was step is =
     let facts = step before was in
-    subst (Replay old.config old.ring old.id) (sym is) (replays_snoc old.config old.ring old.id [] before e replay (facts.0) (facts.1))
+    subst (Replay meaning old.config old.ring old.id) (sym is)
+    (replays_snoc meaning old.config old.ring old.id [] before e replay (facts.0) (facts.1))
 
 -- and what is kept then matches it
-pub matches_on : (old new : ReplayView) (before after : List Entry) (e : Entry) → MatchesHistory old before
-    → IsStep old e.event e.reply new → after ≡ before ++ e ∷ [] → MatchesHistory new after
-matches_on old new before after e was step is = subst (MatchesHistory new) (sym is) ((step before was).2)
+pub matches_on : (meaning : Meanings) (old new : ReplayView) (before after : List Entry) (e : Entry) → MatchesHistory meaning old before
+    → IsStep meaning old e.event e.reply new → after ≡ before ++ e ∷ [] → MatchesHistory meaning new after
+matches_on meaning old new before after e was step is = subst (MatchesHistory meaning new) (sym is) ((step before was).2)
 
 -- one entry more is no more than there may be
 pub few_on : (before after : List Entry) (e : Entry) → length before < max_history_len → after ≡ before ++ e ∷ []
@@ -52,9 +55,10 @@ few_on before after e few is =
     subst (λ (es : List Entry). length es ≤ max_history_len) (sym is) (omega (arith, few, length-append before (e ∷ [])))
 
 -- a replay of the same replica
-pub replay_still : (old new : ReplayView) (entries : List Entry) → new.config ≡ old.config → new.ring ≡ old.ring → new.id ≡ old.id
-    → Replay old.config old.ring old.id entries → Replay new.config new.ring new.id entries
-replay_still old new entries config ring id replay = rw (config, ring, id) replay
+pub replay_still : (meaning : Meanings) (old new : ReplayView) (entries : List Entry) → new.config ≡ old.config → new.ring ≡ old.ring
+    → new.id ≡ old.id
+    → Replay meaning old.config old.ring old.id entries → Replay meaning new.config new.ring new.id entries
+replay_still meaning old new entries config ring id replay = rw (config, ring, id) replay
 
 -- ---- leaves
 
@@ -67,9 +71,10 @@ mute_or true was lacks = refl
 mute_or false was lacks = sym (or-false was)
 
 -- muteness by what is kept is that by the history
-mute_by : (core : Core) (entries : List Entry) (e : Event) → MatchesHistory core.replay entries → IsDueBy core entries
+mute_by : (meaning : Meanings) (core : Core) (entries : List Entry) (e : Event) → MatchesHistory meaning core.replay entries
+    → IsDueBy core entries
     → is_mute_then core e ≡ is_mute_after (replica_of core.replay core.keys entries) e
-mute_by core entries event.RoundEnd matches due =
+mute_by meaning core entries event.RoundEnd matches due =
     ap (λ n. cond (nat_lt core.replay.clock last_round) (core.replay.mute || nat_lt (leaves_of core.keys.secret) (core.keys.used + n))
     core.replay.mute) due
     ∙ mute_or (nat_lt core.replay.clock last_round) core.replay.mute
@@ -78,12 +83,12 @@ mute_by core entries event.RoundEnd matches due =
     && nat_lt (leaves_of core.keys.secret) (core.keys.used + due_by core.replay.config core.replay.id entries)) (sym matches.mute)
     ∙ ap (λ n. is_mute entries || nat_lt n last_round
     && nat_lt (leaves_of core.keys.secret) (core.keys.used + due_by core.replay.config core.replay.id entries)) (sym matches.clock)
-mute_by core entries (event.Submit bytes) matches due = sym matches.mute ∙ sym (or-false (is_mute entries))
-mute_by core entries (event.Propose h) matches due = sym matches.mute ∙ sym (or-false (is_mute entries))
-mute_by core entries (event.Deliver bytes) matches due = sym matches.mute ∙ sym (or-false (is_mute entries))
-mute_by core entries event.Execute matches due = sym matches.mute ∙ sym (or-false (is_mute entries))
-mute_by core entries (event.Query key height) matches due = sym matches.mute ∙ sym (or-false (is_mute entries))
-mute_by core entries (event.Retire floor) matches due = sym matches.mute ∙ sym (or-false (is_mute entries))
+mute_by meaning core entries (event.Submit bytes) matches due = sym matches.mute ∙ sym (or-false (is_mute entries))
+mute_by meaning core entries (event.Propose h) matches due = sym matches.mute ∙ sym (or-false (is_mute entries))
+mute_by meaning core entries (event.Deliver bytes) matches due = sym matches.mute ∙ sym (or-false (is_mute entries))
+mute_by meaning core entries event.Execute matches due = sym matches.mute ∙ sym (or-false (is_mute entries))
+mute_by meaning core entries (event.Query key height) matches due = sym matches.mute ∙ sym (or-false (is_mute entries))
+mute_by meaning core entries (event.Retire floor) matches due = sym matches.mute ∙ sym (or-false (is_mute entries))
 
 -- where too few leaves are left, they are fewer than are due
 lacks_few : (r : StateView) (e : Event) → lacks_leaves r e ≡ true → leaves_of r.secret < r.used + due_next r
@@ -98,28 +103,29 @@ lacks_few r (event.Query key height) lacks = cc
 lacks_few r (event.Retire floor) lacks = cc
 
 -- what a step does
-pub record IsTaken (old new : Core) (before after : List Entry) (e : Entry) : Type 0 where
-  pub matches : MatchesHistory old.replay before
+pub record IsTaken (meaning : Meanings) (old new : Core) (before after : List Entry) (e : Entry) : Type 0 where
+  pub matches : MatchesHistory meaning old.replay before
   pub due : IsDueBy old before
-  pub step : IsStep old.replay e.event e.reply new.replay
+  pub step : IsStep meaning old.replay e.event e.reply new.replay
   pub leaves : UsesLeaves old.keys old.replay.clock e.reply new.keys
   pub mute : new.replay.mute ≡ is_mute_then old e.event
   pub same : IsSameReplica old new
   pub grown : after ≡ before ++ e ∷ []
 
-pub taken_by : (old new : Core) (before after : List Entry) (e : Entry) → MatchesHistory old.replay before
-    → ((entries : List Entry) → MatchesHistory old.replay entries → IsDueBy old entries)
-    → IsStep old.replay e.event e.reply new.replay → UsesLeaves old.keys old.replay.clock e.reply new.keys
+pub taken_by : (meaning : Meanings) (old new : Core) (before after : List Entry) (e : Entry) → MatchesHistory meaning old.replay before
+    → ((entries : List Entry) → MatchesHistory meaning old.replay entries → IsDueBy old entries)
+    → IsStep meaning old.replay e.event e.reply new.replay → UsesLeaves old.keys old.replay.clock e.reply new.keys
     → new.replay.mute ≡ is_mute_then old e.event → IsSameReplica old new
-    → after ≡ before ++ e ∷ [] → IsTaken old new before after e
-taken_by old new before after e matches due step leaves mute same grown =
+    → after ≡ before ++ e ∷ [] → IsTaken meaning old new before after e
+taken_by meaning old new before after e matches due step leaves mute same grown =
     record { matches = matches; due = due before matches; step = step; leaves = leaves; mute = mute; same = same; grown = grown }
 
-module _ (old new : Core) (before after : List Entry) (e : Entry) (taken : IsTaken old new before after e) where
+module _ (meaning : Meanings) (old new : Core) (before after : List Entry) (e : Entry)
+    (taken : IsTaken meaning old new before after e) where
   -- it is mute where it was, or where too few leaves were left
   pub mute_on : is_mute after ≡ is_mute_after (replica_of old.replay old.keys before) e.event
-  mute_on = (matches_on old.replay new.replay before after e taken.matches taken.step taken.grown).mute ∙ taken.mute
-      ∙ mute_by old before e.event taken.matches taken.due
+  mute_on = (matches_on meaning old.replay new.replay before after e taken.matches taken.step taken.grown).mute ∙ taken.mute
+      ∙ mute_by meaning old before e.event taken.matches taken.due
 
   -- each statement that is sent uses a leaf
   used_on : new.keys.used ≡ old.keys.used + signed_count (clock_at before + 1) e.reply
@@ -150,13 +156,14 @@ module _ (old new : Core) (before after : List Entry) (e : Entry) (taken : IsTak
       was)
 
 -- after a fault all is as before, but leaves may be used
-pub left_replica : (old new : Core) (entries : List Entry) → IsReplica old.replay old.keys entries → new.replay ≡ old.replay
+pub left_replica : (meaning : Meanings) (old new : Core) (entries : List Entry) → IsReplica meaning old.replay old.keys entries
+    → new.replay ≡ old.replay
     → IsSameReplica old new → old.keys.used ≤ new.keys.used
-    → IsReplica new.replay new.keys entries
-left_replica old new entries was held same least = record {
+    → IsReplica meaning new.replay new.keys entries
+left_replica meaning old new entries was held same least = record {
   few = was.few;
-  replay = subst (λ (h : ReplayView). Replay h.config h.ring h.id entries) (sym held) was.replay;
-  matches = subst (λ (h : ReplayView). MatchesHistory h entries) (sym held) was.matches;
+  replay = subst (λ (h : ReplayView). Replay meaning h.config h.ring h.id entries) (sym held) was.replay;
+  matches = subst (λ (h : ReplayView). MatchesHistory meaning h entries) (sym held) was.matches;
   account =
       rw (same.config, same.id, same.secret)
       (account_still old.replay.config old.replay.id (leaves_of old.keys.secret) old.keys.used new.keys.used entries least was.account);
@@ -166,28 +173,31 @@ left_replica old new entries was held same least = record {
 -- ---- entries that are stored with their strings in a table
 
 -- a replica with this table and these entries
-abbrev pub IsStoredReplica : Core → List (List ℕ) → List StoredEntry → Type 0
-IsStoredReplica core strings entries = IsReplica core.replay core.keys (entries_of strings entries) × AreStored strings entries
+abbrev pub IsStoredReplica : Meanings → Core → List (List ℕ) → List StoredEntry → Type 0
+IsStoredReplica meaning core strings entries = IsReplica meaning core.replay core.keys (entries_of strings entries)
+    × AreStored strings entries
 
 -- a core took an event, and the entry is stored as the last one
-pub record IsStoredStep (old new : Core) (before after : List (List ℕ)) (event : Event) (entries news : List StoredEntry)
+pub record IsStoredStep (meaning : Meanings) (old new : Core) (before after : List (List ℕ)) (event : Event)
+    (entries news : List StoredEntry)
     (stored : StoredEntry)
     : Type 0 where
-  pub was : IsStoredReplica old before entries
+  pub was : IsStoredReplica meaning old before entries
   pub few : length (entries_of before entries) < max_history_len
-  pub told : IsTakenAs old new before after event stored
+  pub told : IsTakenAs meaning old new before after event stored
   pub left : LeavesCore old new event
   pub kept : Extends before after
-  pub due : (es : List Entry) → MatchesHistory old.replay es → IsDueBy old es
+  pub due : (es : List Entry) → MatchesHistory meaning old.replay es → IsDueBy old es
   pub grown : news ≡ entries ++ stored ∷ []
 
-pub applied_by : {old new : Core} {before after : List (List ℕ)} {event : Event} {entries reserved news : List StoredEntry}
+pub applied_by : (meaning : Meanings) → {old new : Core} {before after : List (List ℕ)} {event : Event}
+    {entries reserved news : List StoredEntry}
     {stored : StoredEntry}
-    → IsTakenAs old new before after event stored → LeavesCore old new event → Extends before after
-    → IsReplica old.replay old.keys (entries_of before entries) × AreStored before entries → length entries < max_history_len
-    → ((es : List Entry) → MatchesHistory old.replay es → IsDueBy old es) → reserved ≡ entries → news ≡ reserved ++ stored ∷ []
-    → IsStoredStep old new before after event entries news stored
-applied_by {old} {new} {before} {after} {event} {entries} {reserved} {news} {stored} told left kept was few due same grown = record {
+    → IsTakenAs meaning old new before after event stored → LeavesCore old new event → Extends before after
+    → IsReplica meaning old.replay old.keys (entries_of before entries) × AreStored before entries → length entries < max_history_len
+    → ((es : List Entry) → MatchesHistory meaning old.replay es → IsDueBy old es) → reserved ≡ entries → news ≡ reserved ++ stored ∷ []
+    → IsStoredStep meaning old new before after event entries news stored
+applied_by meaning {old} {new} {before} {after} {event} {entries} {reserved} {news} {stored} told left kept was few due same grown = record {
   was = was;
   few = omega (arith, length-map entries (entry_of before), few);
   told = told;
@@ -197,31 +207,38 @@ applied_by {old} {new} {before} {after} {event} {entries} {reserved} {news} {sto
   grown = grown ∙ ap (λ es. es ++ stored ∷ []) same;
 }
 
-module _ {old new : Core} {before after : List (List ℕ)} {event : Event} {entries news : List StoredEntry} {stored : StoredEntry}
-    (facts : IsStoredStep old new before after event entries news stored) where
+module _ (meaning : Meanings) {old new : Core} {before after : List (List ℕ)} {event : Event} {entries news : List StoredEntry}
+    {stored : StoredEntry}
+    (facts : IsStoredStep meaning old new before after event entries news stored) where
   -- the history has the entry
   pub longer : entries_of after news ≡ entries_of before entries ++ entry_of after stored ∷ []
   longer = ap (entries_of after) facts.grown ∙ entries_more before after facts.kept entries stored facts.was.1.within
 
-  step_on : IsStep old.replay (entry_of after stored).event (entry_of after stored).reply new.replay
-  step_on = subst (λ (e : Event). IsStep old.replay e (entry_of after stored).reply new.replay) (sym facts.told.event_is) facts.told.step
+  step_on : IsStep meaning old.replay (entry_of after stored).event (entry_of after stored).reply new.replay
+  step_on = subst (λ (e : Event). IsStep meaning old.replay e (entry_of after stored).reply new.replay)
+      (sym facts.told.event_is) facts.told.step
 
-  taken_on : IsTaken old new (entries_of before entries) (entries_of after news) (entry_of after stored)
-  taken_on = taken_by old new (entries_of before entries) (entries_of after news) (entry_of after stored) facts.was.0.matches facts.due
+  taken_on : IsTaken meaning old new (entries_of before entries) (entries_of after news) (entry_of after stored)
+  taken_on = taken_by meaning old new (entries_of before entries) (entries_of after news)
+      (entry_of after stored) facts.was.0.matches facts.due
       step_on facts.told.leaves (subst (λ (e : Event). new.replay.mute ≡ is_mute_then old e) (sym facts.told.event_is) facts.told.mute)
       facts.left.same longer
 
   -- it is a replica again
-  pub still_replica : IsReplica new.replay new.keys (entries_of after news)
+  pub still_replica : IsReplica meaning new.replay new.keys (entries_of after news)
   still_replica = record {
     few = few_on (entries_of before entries) (entries_of after news) (entry_of after stored) facts.few longer;
-    replay = replay_still old.replay new.replay (entries_of after news) facts.left.same.config facts.left.same.ring facts.left.same.id
-        (replay_on old.replay new.replay (entries_of before entries) (entries_of after news) (entry_of after stored) facts.was.0.replay
+    replay = replay_still meaning old.replay new.replay (entries_of after news) facts.left.same.config facts.left.same.ring
+        facts.left.same.id
+        (replay_on meaning old.replay new.replay (entries_of before entries) (entries_of after news)
+        (entry_of after stored) facts.was.0.replay
         facts.was.0.matches step_on longer);
-    matches = matches_on old.replay new.replay (entries_of before entries) (entries_of after news) (entry_of after stored) facts.was.0.matches
+    matches = matches_on meaning old.replay new.replay (entries_of before entries) (entries_of after news)
+        (entry_of after stored) facts.was.0.matches
         step_on longer;
-    account = account_on old new (entries_of before entries) (entries_of after news) (entry_of after stored) taken_on facts.was.0.account;
-    once = once_on old new (entries_of before entries) (entries_of after news) (entry_of after stored) taken_on facts.was.0.once;
+    account = account_on meaning old new (entries_of before entries) (entries_of after news)
+        (entry_of after stored) taken_on facts.was.0.account;
+    once = once_on meaning old new (entries_of before entries) (entries_of after news) (entry_of after stored) taken_on facts.was.0.once;
   }
 
   -- and its table has each string of the longer history
@@ -233,7 +250,7 @@ module _ {old new : Core} {before after : List (List ℕ)} {event : Event} {entr
   -- what was added
   pub added_on : (reply : Reply)
       × ((entries_of after news ≡ entries_of before entries ++ record { event = event; reply = reply } ∷ [])
-      × Lawful old.replay.config old.replay.ring old.replay.id (entries_of before entries) event reply
+      × Lawful meaning old.replay.config old.replay.ring old.replay.id (entries_of before entries) event reply
       × IsTrue (is_signed_reply old.replay.ring reply)
       × UsesLeaves old.keys (clock_at (entries_of before entries)) reply new.keys)
   added_on =
@@ -250,57 +267,67 @@ module _ {old new : Core} {before after : List (List ℕ)} {event : Event} {entr
 
   -- whether it is mute
   pub still_mute : is_mute (entries_of after news) ≡ is_mute_after (replica_of old.replay old.keys (entries_of before entries)) event
-  still_mute = mute_on old new (entries_of before entries) (entries_of after news) (entry_of after stored) taken_on
+  still_mute = mute_on meaning old new (entries_of before entries) (entries_of after news) (entry_of after stored) taken_on
       ∙ ap (is_mute_after (replica_of old.replay old.keys (entries_of before entries))) facts.told.event_is
 
   pub still_signed : UsesAsSigned (replica_of old.replay old.keys (entries_of before entries))
       (replica_of new.replay new.keys (entries_of after news))
-  still_signed = signed_on old new (entries_of before entries) (entries_of after news) (entry_of after stored) taken_on
+  still_signed = signed_on meaning old new (entries_of before entries) (entries_of after news) (entry_of after stored) taken_on
 
 -- where memory ran out, all is as before, but leaves may be used
-pub left_stored : (old new : Core) (before after : List (List ℕ)) (event : Event) (entries news : List StoredEntry)
-    → IsStoredReplica old before entries → new ≡ record old { keys = new.keys } → LeavesCore old new event → after ≡ before → news ≡ entries
-    → IsStoredReplica new after news
-left_stored old new before after event entries news was err left strings same =
-    let still : IsStoredReplica new before entries =
-    (left_replica old new (entries_of before entries) was.0 (ap (λ (r : Core). r.replay) err) left.same left.least, was.1) in
-    subst (IsStoredReplica new after) (sym same) (subst (λ t. IsStoredReplica new t entries) (sym strings) still)
+pub left_stored : (meaning : Meanings) (old new : Core) (before after : List (List ℕ)) (event : Event) (entries news : List StoredEntry)
+    → IsStoredReplica meaning old before entries → new ≡ record old { keys = new.keys } → LeavesCore old new event → after ≡ before
+    → news ≡ entries
+    → IsStoredReplica meaning new after news
+left_stored meaning old new before after event entries news was err left strings same =
+    let still : IsStoredReplica meaning new before entries =
+    (left_replica meaning old new (entries_of before entries) was.0 (ap (λ (r : Core). r.replay) err) left.same left.least, was.1) in
+    subst (IsStoredReplica meaning new after) (sym same) (subst (λ t. IsStoredReplica meaning new t entries) (sym strings) still)
 
 -- the application runs alone
-pub runs_alone : (held : ReplayView) (keys : SignerView) (entries : List Entry) → IsReplica held keys entries
-    → RunsAlone (replica_of held keys entries)
+pub runs_alone : (meaning : Meanings) (held : ReplayView) (keys : SignerView) (entries : List Entry) → IsReplica meaning held keys entries
+    → RunsAlone meaning (replica_of held keys entries)
 unfolding RunsAlone
-runs_alone held keys entries is = is.matches.machine ∙ ap (run held.config.kind) (sym is.matches.commits)
+runs_alone meaning held keys entries is = is.matches.machine ∙ ap (run meaning held.config.kind) (sym is.matches.commits)
 
 -- so a replica is sound
-pub sound : (held : ReplayView) (keys : SignerView) (entries : List Entry) → IsReplica held keys entries
-    → IsSound (replica_of held keys entries)
-sound held keys entries is = record { replay = is.replay; machine = runs_alone held keys entries is; account = is.account; once = is.once }
+pub sound : (meaning : Meanings) (held : ReplayView) (keys : SignerView) (entries : List Entry) → IsReplica meaning held keys entries
+    → IsSound meaning (replica_of held keys entries)
+sound meaning held keys entries is = record {
+  replay = is.replay;
+  machine = runs_alone meaning held keys entries is;
+  account = is.account;
+  once = is.once;
+}
 
 -- what the event did
-pub applies : {old new : Core} {before after : List (List ℕ)} {event : Event} {entries news : List StoredEntry} {stored : StoredEntry}
-    → IsStoredStep old new before after event entries news stored
-    → AppliesEvent (replica_of old.replay old.keys (entries_of before entries)) event (replica_of new.replay new.keys (entries_of after news))
-applies facts = record {
+pub applies : (meaning : Meanings) → {old new : Core} {before after : List (List ℕ)} {event : Event} {entries news : List StoredEntry}
+    {stored : StoredEntry}
+    → IsStoredStep meaning old new before after event entries news stored
+    → AppliesEvent meaning (replica_of old.replay old.keys (entries_of before entries)) event
+    (replica_of new.replay new.keys (entries_of after news))
+applies meaning facts = record {
   room = facts.few;
-  reply = (added_on facts).0;
-  added = (added_on facts).1.0;
-  lawful = (added_on facts).1.1;
-  signed = (added_on facts).1.2;
-  leaves = (added_on facts).1.3;
-  used = still_signed facts;
+  reply = (added_on meaning facts).0;
+  added = (added_on meaning facts).1.0;
+  lawful = (added_on meaning facts).1.1;
+  signed = (added_on meaning facts).1.2;
+  leaves = (added_on meaning facts).1.3;
+  used = still_signed meaning facts;
   least = facts.left.least;
-  mute = still_mute facts;
+  mute = still_mute meaning facts;
   rest = rw (facts.left.same.config, facts.left.same.id, facts.left.same.ring, facts.left.same.secret) refl;
 }
 
 -- ---- a refused event
 
 -- what is kept makes no more leaves due than the history does, and none where nothing is signed
-due_by_history : (core : Core) (entries : List Entry) (e : Event) → MatchesHistory core.replay entries → IsDueBy core entries
+due_by_history : (meaning : Meanings) (core : Core) (entries : List Entry) (e : Event) → MatchesHistory meaning core.replay entries
+    → IsDueBy core entries
     → (leaves_due core e ≤ due_next (replica_of core.replay core.keys entries))
     × (signs_at (replica_of core.replay core.keys entries) e ≡ false → leaves_due core e ≡ 0)
-due_by_history core entries event.RoundEnd matches due = by_round (nat_lt core.replay.clock last_round) (is_mute_next core) refl refl
+due_by_history meaning core entries event.RoundEnd matches due = by_round (nat_lt core.replay.clock last_round)
+    (is_mute_next core) refl refl
   where
     r : StateView
     r = replica_of core.replay core.keys entries
@@ -310,7 +337,7 @@ due_by_history core entries event.RoundEnd matches due = by_round (nat_lt core.r
     by_round false mute is says = rw is (omega arith, λ quiet. refl)
     by_round true true is says = rw (is, says) (omega arith, λ quiet. refl)
     by_round true false is says =
-        let same : is_mute_after r event.RoundEnd ≡ false = sym (mute_by core entries event.RoundEnd matches due) ∙ rw is says in
+        let same : is_mute_after r event.RoundEnd ≡ false = sym (mute_by meaning core entries event.RoundEnd matches due) ∙ rw is says in
         let clock : clock_at entries ≡ core.replay.clock = matches.clock in
         rw (is, says) (
           omega (arith, due),
@@ -318,24 +345,25 @@ due_by_history core entries event.RoundEnd matches due = by_round (nat_lt core.r
               let signs : (true && not false) ≡ false = rw (same, clock, is) at quiet in
               absurd cc,
         )
-due_by_history core entries (event.Submit bytes) matches due = (omega arith, λ quiet. refl)
-due_by_history core entries (event.Propose h) matches due = (omega arith, λ quiet. refl)
-due_by_history core entries (event.Deliver bytes) matches due = (omega arith, λ quiet. refl)
-due_by_history core entries event.Execute matches due = (omega arith, λ quiet. refl)
-due_by_history core entries (event.Query key height) matches due = (omega arith, λ quiet. refl)
-due_by_history core entries (event.Retire floor) matches due = (omega arith, λ quiet. refl)
+due_by_history meaning core entries (event.Submit bytes) matches due = (omega arith, λ quiet. refl)
+due_by_history meaning core entries (event.Propose h) matches due = (omega arith, λ quiet. refl)
+due_by_history meaning core entries (event.Deliver bytes) matches due = (omega arith, λ quiet. refl)
+due_by_history meaning core entries event.Execute matches due = (omega arith, λ quiet. refl)
+due_by_history meaning core entries (event.Query key height) matches due = (omega arith, λ quiet. refl)
+due_by_history meaning core entries (event.Retire floor) matches due = (omega arith, λ quiet. refl)
 
 -- where memory ran out the event is refused: all is as before, but leaves may be used
-pub refuses_event : (old new : Core) (before after : List (List ℕ)) (event : Event) (entries news : List StoredEntry)
-    → IsStoredReplica old before entries → length (entries_of before entries) < max_history_len
-    → ((es : List Entry) → MatchesHistory old.replay es → IsDueBy old es)
+pub refuses_event : (meaning : Meanings) (old new : Core) (before after : List (List ℕ)) (event : Event) (entries news : List StoredEntry)
+    → IsStoredReplica meaning old before entries → length (entries_of before entries) < max_history_len
+    → ((es : List Entry) → MatchesHistory meaning old.replay es → IsDueBy old es)
     → new ≡ record old { keys = new.keys } → LeavesCore old new event → after ≡ before → news ≡ entries
     → RefusesEvent (replica_of old.replay old.keys (entries_of before entries)) event fault.NoMemory
     (replica_of new.replay new.keys (entries_of after news))
-refuses_event old new before after event entries news was few due err left strings same =
+refuses_event meaning old new before after event entries news was few due err left strings same =
     let r = replica_of old.replay old.keys (entries_of before entries) in
     let n = replica_of new.replay new.keys (entries_of after news) in
-    let due_by = due_by_history old (entries_of before entries) event was.0.matches (due (entries_of before entries) was.0.matches) in
+    let due_by = due_by_history meaning old (entries_of before entries) event was.0.matches
+    (due (entries_of before entries) was.0.matches) in
     let held : new.replay ≡ old.replay = ap (λ (k : Core). k.replay) err in
     let es : entries_of after news ≡ entries_of before entries =
     ap (λ t. entries_of t news) strings ∙ ap (entries_of before) same in

@@ -5,7 +5,7 @@ use Rattle.std.specs.List.{position}
 use Rattle.std.proofs.lemmas.Bool.{eqb-true}
 use Rattle.std.proofs.lemmas.List.Quantifiers.{position-Some}
 use Rattle.std.proofs.lemmas.Option.{slice_get-get_or}
-use Rattle.ledger_model.specs.Applications.{same_bytes}
+use Rattle.ledger_model.specs.Values.{same_bytes}
 use Rattle.ledger_model.proofs.Lists.{pointwise_equal}
 
 -- strings that are the same are equal

@@ -1,4 +1,5 @@
 -- Entries whose strings are in a table mean the same when the table grows.
+use Rattle.ledger_model.specs.Meanings.{Meanings}
 use Rattle.std.proofs.Common.{◌≡◌, ℕ, zero, suc, ◌+◌, ◌<◌, List, [], ◌∷◌, ◌++◌, length, get_or, take, map, refl, sym, ap, subst, ◌∙◌}
 use Rattle.std.specs.Prelude.{Ok, Err, Some, slice_get}
 use Rattle.std.specs.List.{AllByRecursion}
@@ -118,30 +119,31 @@ module _ (old new : List (List ℕ)) (x : Sent) (position : ℕ) (put : new ≡ 
 -- ---- replies by their events
 
 -- bytes that are delivered have a reply to a delivery
-pub delivered : (config : Config) (ring : Ring) (id : ℕ) (entries : List Entry) (bytes : List ℕ) (r : Reply)
-    → Lawful config ring id entries (event.Deliver bytes) r → IsDelivered r
-delivered config ring id entries bytes (reply.Delivered answer) lawful = (answer, refl)
-delivered config ring id entries bytes (reply.Submitted r) lawful = absurd lawful
-delivered config ring id entries bytes (reply.Proposed r) lawful = absurd lawful
-delivered config ring id entries bytes (reply.RoundEnded r) lawful = absurd lawful
-delivered config ring id entries bytes (reply.Executed r) lawful = absurd lawful
-delivered config ring id entries bytes (reply.Queried r) lawful = absurd lawful
-delivered config ring id entries bytes (reply.Retired r) lawful = absurd lawful
+pub delivered : (meaning : Meanings) (config : Config) (ring : Ring) (id : ℕ) (entries : List Entry) (bytes : List ℕ) (r : Reply)
+    → Lawful meaning config ring id entries (event.Deliver bytes) r → IsDelivered r
+delivered meaning config ring id entries bytes (reply.Delivered answer) lawful = (answer, refl)
+delivered meaning config ring id entries bytes (reply.Submitted r) lawful = absurd lawful
+delivered meaning config ring id entries bytes (reply.Proposed r) lawful = absurd lawful
+delivered meaning config ring id entries bytes (reply.RoundEnded r) lawful = absurd lawful
+delivered meaning config ring id entries bytes (reply.Executed r) lawful = absurd lawful
+delivered meaning config ring id entries bytes (reply.Queried r) lawful = absurd lawful
+delivered meaning config ring id entries bytes (reply.Retired r) lawful = absurd lawful
 
 -- an event that ends no round has a reply that opens none
-pub opens_none : (config : Config) (ring : Ring) (id : ℕ) (entries : List Entry) (e : Event) (r : Reply)
-    → BringsNone e → Lawful config ring id entries e r → EndsNone r
-opens_none config ring id entries (event.Deliver bytes) r none lawful = absurd none
-opens_none config ring id entries event.RoundEnd r none lawful = absurd none
-opens_none config ring id entries (event.Submit bytes) r none lawful =
-    λ ended is. subst (Lawful config ring id entries (event.Submit bytes)) is lawful
-opens_none config ring id entries (event.Propose h) r none lawful =
-    λ ended is. subst (Lawful config ring id entries (event.Propose h)) is lawful
-opens_none config ring id entries event.Execute r none lawful = λ ended is. subst (Lawful config ring id entries event.Execute) is lawful
-opens_none config ring id entries (event.Query key h) r none lawful =
-    λ ended is. subst (Lawful config ring id entries (event.Query key h)) is lawful
-opens_none config ring id entries (event.Retire floor) r none lawful =
-    λ ended is. subst (Lawful config ring id entries (event.Retire floor)) is lawful
+pub opens_none : (meaning : Meanings) (config : Config) (ring : Ring) (id : ℕ) (entries : List Entry) (e : Event) (r : Reply)
+    → BringsNone e → Lawful meaning config ring id entries e r → EndsNone r
+opens_none meaning config ring id entries (event.Deliver bytes) r none lawful = absurd none
+opens_none meaning config ring id entries event.RoundEnd r none lawful = absurd none
+opens_none meaning config ring id entries (event.Submit bytes) r none lawful =
+    λ ended is. subst (Lawful meaning config ring id entries (event.Submit bytes)) is lawful
+opens_none meaning config ring id entries (event.Propose h) r none lawful =
+    λ ended is. subst (Lawful meaning config ring id entries (event.Propose h)) is lawful
+opens_none meaning config ring id entries event.Execute r none lawful = λ ended is. subst
+    (Lawful meaning config ring id entries event.Execute) is lawful
+opens_none meaning config ring id entries (event.Query key h) r none lawful =
+    λ ended is. subst (Lawful meaning config ring id entries (event.Query key h)) is lawful
+opens_none meaning config ring id entries (event.Retire floor) r none lawful =
+    λ ended is. subst (Lawful meaning config ring id entries (event.Retire floor)) is lawful
 
 -- and brings no string
 pub brings_none : (e : Event) (r : Reply) → BringsNone e → strings_at e r ≡ []

@@ -8,7 +8,7 @@ use Rattle.std.proofs.lemmas.Grind.{flat_map-append}
 use Rattle.std.proofs.lemmas.List.{append-nil, get_or_append_left}
 use Rattle.std.proofs.lemmas.List.Folds.{list_any-append}
 use Rattle.std.proofs.lemmas.Option.{get_or_from_slice_get, slice_get_within}
-use Rattle.ledger_model.specs.Applications.{same_bytes}
+use Rattle.ledger_model.specs.Values.{same_bytes}
 use Rattle.ledger_model.specs.Pools.{is_among}
 use Rattle.ledger_model.specs.declared.history.Entry.{Entry}
 use Rattle.std.proofs.Math.Bool.{or-false}

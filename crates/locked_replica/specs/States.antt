@@ -1,5 +1,6 @@
 -- A replica as contracts see it: its configuration and keys, the number of leaves that it used, its history, and its
 -- application as a state machine.
+use Rattle.ledger_model.specs.Meanings.{Meanings}
 use Rattle.std.specs.Prelude.{◌≡◌, ℕ, ◌+◌, ◌<◌, ◌≤◌, nat_lt, Bool, false, not, ◌&&◌, ◌||◌, List, [], Some, length, slice_get, if◌then◌else◌}
 use Rattle.ledger_model.specs.Limits.{last_round, max_history_len}
 use Rattle.ledger_model.specs.declared.config.Config.{Config}
@@ -37,15 +38,15 @@ pub record IsMember (config : Config) (id : ℕ) (ring : Ring) (secret : Secret)
   pub own : slice_get ring id ≡ Some (public_key_of secret)
 
 -- a replica with an empty history, whose application is in its opening state
-abbrev pub new_state : Config → ℕ → Ring → SignerView → StateView
-new_state config id ring keys = record {
+abbrev pub new_state : Meanings → Config → ℕ → Ring → SignerView → StateView
+new_state meaning config id ring keys = record {
   config = config;
   id = id;
   ring = ring;
   secret = keys.secret;
   used = keys.used;
   entries = [];
-  machine = run config.kind [];
+  machine = run meaning config.kind [];
 }
 
 -- the replica that has this core state, these keys and this history
@@ -62,16 +63,16 @@ replica_of held keys entries = record {
 
 -- The history has at most 65,536 entries, each lawful after those before it; the core state is what the history makes
 -- of it; each used leaf is accounted for; and no leaf signs two of its statements.
-pub record IsReplica (held : ReplayView) (keys : SignerView) (entries : List Entry) : Type 0 where
+pub record IsReplica (meaning : Meanings) (held : ReplayView) (keys : SignerView) (entries : List Entry) : Type 0 where
   pub few : length entries ≤ max_history_len
-  pub replay : Replay held.config held.ring held.id entries
-  pub matches : MatchesHistory held entries
+  pub replay : Replay meaning held.config held.ring held.id entries
+  pub matches : MatchesHistory meaning held entries
   pub account : LeafAccount held.config held.id (leaves_of keys.secret) keys.used entries
   pub once : SignsOnce keys.secret keys.used entries
 
 -- its application is in the state that it reaches when it runs alone on the committed blocks
-unfoldable pub RunsAlone : StateView → Type 0
-RunsAlone r = r.machine ≡ run r.config.kind (commits_of r.config r.id r.entries)
+unfoldable pub RunsAlone : Meanings → StateView → Type 0
+RunsAlone meaning r = r.machine ≡ run meaning r.config.kind (commits_of r.config r.id r.entries)
 
 -- ---- its leaves
 

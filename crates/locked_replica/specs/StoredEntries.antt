@@ -1,4 +1,5 @@
 -- The entries of a history whose strings are stored once, in a table: an entry names them by their positions.
+use Rattle.ledger_model.specs.Meanings.{Meanings}
 use Rattle.std.specs.Prelude.{◌≡◌, ℕ, ◌<◌, ◌≤◌, ◌+◌, List, map, length, Result, Ok, Err}
 use Rattle.std.specs.List.{AllByRecursion}
 use Rattle.ledger_model.specs.declared.event.Event.{Event}
@@ -72,9 +73,10 @@ pub record AreStored (strings : List (List ℕ)) (entries : List StoredEntry) : 
 
 -- The core took the event, and this entry is stored, with the strings `after` in place of `before`: its reply is a step, and uses the
 -- leaves that are used now; the replica is mute as the core is then; and only the entry's strings are added.
-pub record IsTakenAs (old new : CoreView) (before after : List (List ℕ)) (event : Event) (entry : StoredEntry) : Type 0 where
+pub record IsTakenAs (meaning : Meanings) (old new : CoreView) (before after : List (List ℕ)) (event : Event)
+    (entry : StoredEntry) : Type 0 where
   pub event_is : (entry_of after entry).event ≡ event
-  pub step : IsStep old.replay event (entry_of after entry).reply new.replay
+  pub step : IsStep meaning old.replay event (entry_of after entry).reply new.replay
   pub leaves : UsesLeaves old.keys old.replay.clock (entry_of after entry).reply new.keys
   pub mute : new.replay.mute ≡ is_mute_then old event
   pub within : IsWithin (length after) entry

@@ -54,7 +54,7 @@ impl<A: Application> Model for State<A> {
 
     ghost view = { λ s. replica_of s.core.replay s.core.keys (entries_of s.strings s.entries.items) };
 
-    ghost invariant = { λ s. IsReplica s.core.replay s.core.keys (entries_of s.strings s.entries.items) × AreStored s.strings s.entries.items };
+    ghost invariant = { λ s. IsReplica A.meaning s.core.replay s.core.keys (entries_of s.strings s.entries.items) × AreStored s.strings s.entries.items };
 }
 
 impl<A: Application> State<A> {
@@ -62,7 +62,7 @@ impl<A: Application> State<A> {
     ghost use Rattle.std.specs.Prelude.{Some, Err, IfOk, IfErr, OnErr, OnOk, IsErrOf, IsTrue};
     ghost use Rattle.std.specs.Option.{option_copied};
     ghost use Rattle.std.specs.List.{IsDistinct};
-    ghost use Rattle.ledger_model.specs.Applications.{same_bytes};
+    ghost use Rattle.ledger_model.specs.Values.{same_bytes};
     ghost use Rattle.ledger_model.specs.declared.reply.Reply.{Reply};
     ghost use Rattle.ledger_model.specs.Limits.{max_height, max_history_len};
     ghost use Rattle.ledger_model.specs.Applications.{run};
@@ -93,8 +93,8 @@ impl<A: Application> State<A> {
         randoms: [RandomState; 2],
     ) -> Result<Self, AllocError>
         requires member { IsMember config id ring signer.secret }
-        requires opening { A.machine app ≡ run config.kind [] }
-        ensures { IfOk result (λ state. state ≡ new_state config id ring signer) }
+        requires opening { A.machine app ≡ run A.meaning config.kind [] }
+        ensures { IfOk result (λ state. state ≡ new_state A.meaning config id ring signer) }
     {
         let [_, strings_random] = randoms;
         Ok(State {
@@ -165,7 +165,7 @@ impl<A: Application> State<A> {
     pub fn len(&self) -> usize
         ensures len { result ≡ length self.now.entries }
         ensures few { result ≤ max_history_len }
-        ensures sound { IsSound self.now }
+        ensures sound { IsSound A.meaning self.now }
     {
         self.entries.len()
     }
@@ -180,7 +180,7 @@ impl<A: Application> State<A> {
     /// The entry with this index, from 0 for the oldest; `None` if there are fewer.
     pub fn entry(&self, index: usize) -> Option<EntryView<'_>>
         ensures entry { result ≡ slice_get self.now.entries index }
-        ensures replay { Replay self.now.config self.now.ring self.now.id self.now.entries }
+        ensures replay { Replay A.meaning self.now.config self.now.ring self.now.id self.now.entries }
     {
         match self.entries.get(index) {
             Some(entry) => Some(EntryView::new(entry, &self.strings)),
@@ -210,14 +210,14 @@ impl<A: Application> State<A> {
 
     /// The pool: the transactions that wait for a block, in order of arrival.
     pub fn pool(&self) -> &Pool
-        ensures { result.now ≡ pool_of self.now.config self.now.id self.now.entries }
+        ensures { result.now ≡ pool_of A.meaning self.now.config self.now.id self.now.entries }
     {
         self.core.pool()
     }
 
     /// The number of transactions that wait for a block.
     pub fn waiting(&self) -> usize
-        ensures { result ≡ length (pool_of self.now.config self.now.id self.now.entries) }
+        ensures { result ≡ length (pool_of A.meaning self.now.config self.now.id self.now.entries) }
     {
         self.core.pool().len()
     }
@@ -229,7 +229,7 @@ impl<A: Application> State<A> {
         ensures history { IfOk result (λ s. s.history ≡ record { replica = self.now.id; entries = self.now.entries }) }
         ensures config { IfOk result (λ s. s.config ≡ self.now.config) }
         ensures ring { IfOk result (λ s. s.ring ≡ self.now.ring) }
-        ensures replay { Replay self.now.config self.now.ring self.now.id self.now.entries }
+        ensures replay { Replay A.meaning self.now.config self.now.ring self.now.id self.now.entries }
     {
         Ok(Snapshot {
             config: *self.core.config(),
@@ -272,14 +272,14 @@ impl<A: Application> State<A> {
         ensures height { result ≡ length (commits_of self.now.config self.now.id self.now.entries) }
         ensures most { result ≤ max_height }
         // The application is in the state that it reaches when it runs alone on the committed blocks.
-        ensures machine { RunsAlone self.now }
+        ensures machine { RunsAlone A.meaning self.now }
     {
         self.core.height()
     }
 
     /// The number of blocks that the application committed, and the hash of its state (ABCI's Info).
     pub fn info(&self) -> Info
-        ensures { result ≡ info_reply self.now.config.kind (commits_of self.now.config self.now.id self.now.entries) }
+        ensures { result ≡ info_reply A.meaning self.now.config.kind (commits_of self.now.config self.now.id self.now.entries) }
     {
         self.core.info()
     }
@@ -314,9 +314,9 @@ impl<A: Application> State<A> {
     /// is as before, except that a round end may have used leaves.
     pub fn apply(&mut self, event: Event) -> Result<usize, ApplyFault>
         ensures index { IfOk result (λ index. index ≡ length self.old.entries) }
-        ensures applied { OnOk result (AppliesEvent self.old event self.new) }
+        ensures applied { OnOk result (AppliesEvent A.meaning self.old event self.new) }
         ensures refused { IfErr result (λ why. RefusesEvent self.old event why self.new) }
-        ensures sound { IsSound self.new }
+        ensures sound { IsSound A.meaning self.new }
     {
         let index = self.entries.len();
         if index >= MAX_ENTRIES {

@@ -20,7 +20,7 @@ impl Model for StoredString {
 impl PartialEq for StoredString {
     ghost use Rattle.std.specs.Cmp.{partial_equiv_from_equiv};
     ghost use Rattle.std.specs.Cmp.Lexicographic.{nat_list_eq_equiv};
-    ghost use Rattle.ledger_model.specs.Applications.{same_bytes};
+    ghost use Rattle.ledger_model.specs.Values.{same_bytes};
 
     ghost eq = { same_bytes };
 

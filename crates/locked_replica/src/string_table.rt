@@ -1,7 +1,7 @@
 //! A table that has each byte string once.
 ghost use Rattle.std.specs.Prelude.{◌≡◌, ◌<◌, [], Some, length, slice_get, option_copied, is_some, take, map, IfSome, IfOk, OnOk, OnErr};
 ghost use Rattle.std.specs.List.{IsDistinct};
-ghost use Rattle.ledger_model.specs.Applications.{same_bytes};
+ghost use Rattle.ledger_model.specs.Values.{same_bytes};
 ghost use Rattle.ledger_model.specs.Pools.{is_among};
 ghost use Rattle.locked_replica.specs.Strings.{with_string, string_at};
 

@@ -34,8 +34,8 @@ fn deliver<A: Application>(
     strings: &mut StringTable,
     bytes: Bytes,
 ) -> Result<StoredEntry, AllocError>
-    requires { (entries : List EntryValue) × MatchesHistory core.old.replay entries }
-    ensures taken { IfOk result (IsTakenAs core.old core.new strings.old strings.new (event.Deliver bytes)) }
+    requires { (entries : List EntryValue) × MatchesHistory A.meaning core.old.replay entries }
+    ensures taken { IfOk result (IsTakenAs A.meaning core.old core.new strings.old strings.new (event.Deliver bytes)) }
     ensures err { OnErr result (core.new ≡ record core.old { keys = core.new.keys }) }
     ensures left { LeavesCore core.old core.new (event.Deliver bytes) }
     ensures kept { Extends strings.old strings.new }
@@ -52,7 +52,7 @@ fn end_round<A: Application>(
     core: &mut Core<A>,
     strings: &mut StringTable,
 ) -> Result<StoredEntry, AllocError>
-    ensures taken { IfOk result (IsTakenAs core.old core.new strings.old strings.new event.RoundEnd) }
+    ensures taken { IfOk result (IsTakenAs A.meaning core.old core.new strings.old strings.new event.RoundEnd) }
     ensures err { OnErr result (core.new ≡ record core.old { keys = core.new.keys }) }
     ensures left { LeavesCore core.old core.new event.RoundEnd }
     ensures kept { Extends strings.old strings.new }
@@ -74,8 +74,8 @@ fn take_other<A: Application>(
     event: Event,
 ) -> Result<StoredEntry, AllocError>
     requires none { BringsNone event }
-    requires matches { (entries : List EntryValue) × MatchesHistory core.old.replay entries }
-    ensures taken { IfOk result (λ stored. (strings : List (List ℕ)) → IsTakenAs core.old core.new strings strings event stored) }
+    requires matches { (entries : List EntryValue) × MatchesHistory A.meaning core.old.replay entries }
+    ensures taken { IfOk result (λ stored. (strings : List (List ℕ)) → IsTakenAs A.meaning core.old core.new strings strings event stored) }
     ensures err { OnErr result (core.new ≡ record core.old { keys = core.new.keys }) }
     ensures left { LeavesCore core.old core.new event }
 {
@@ -93,8 +93,8 @@ fn take<A: Application>(
     strings: &mut StringTable,
     event: Event,
 ) -> Result<StoredEntry, AllocError>
-    requires { (entries : List EntryValue) × MatchesHistory core.old.replay entries }
-    ensures taken { IfOk result (IsTakenAs core.old core.new strings.old strings.new event) }
+    requires { (entries : List EntryValue) × MatchesHistory A.meaning core.old.replay entries }
+    ensures taken { IfOk result (IsTakenAs A.meaning core.old core.new strings.old strings.new event) }
     ensures err { OnErr result (core.new ≡ record core.old { keys = core.new.keys }) }
     ensures left { LeavesCore core.old core.new event }
     ensures kept { Extends strings.old strings.new }
@@ -114,8 +114,8 @@ pub(crate) fn take_event<A: Application>(
     strings: &mut StringTable,
     event: Event,
 ) -> Result<StoredEntry, AllocError>
-    requires { (entries : List EntryValue) × MatchesHistory core.old.replay entries }
-    ensures taken { IfOk result (IsTakenAs core.old core.new strings.old strings.new event) }
+    requires { (entries : List EntryValue) × MatchesHistory A.meaning core.old.replay entries }
+    ensures taken { IfOk result (IsTakenAs A.meaning core.old core.new strings.old strings.new event) }
     ensures err { OnErr result (core.new ≡ record core.old { keys = core.new.keys }) }
     ensures strings_err { OnErr result (strings.new ≡ strings.old) }
     ensures left { LeavesCore core.old core.new event }

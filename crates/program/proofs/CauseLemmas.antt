@@ -1,4 +1,5 @@
 -- Why `abft deliver` stops, from call to call.
+use Rattle.ledger_model.specs.Meanings.{Meanings}
 use Rattle.std.proofs.Common.{◌≡◌, ℕ, ◌≤◌, List, length, refl, subst, sym}
 use Rattle.std.specs.Prelude.{Option, Result, Ok, Err, IfErr, IsTrue}
 use Rattle.ledger_model.specs.declared.history.Entry.{Entry}
@@ -42,11 +43,11 @@ pub if_stops : {T : Type 0} (r : Result T ProgramFault) (entries : List Entry) �
 if_stops (Ok x) entries is = tt
 if_stops (Err e) entries is = stops_anyway entries e is
 
-module _ (s : DeliverSettings) (unread left before after : Option (List ℕ)) where
+module _ (meaning : Meanings) (s : DeliverSettings) (unread left before after : Option (List ℕ)) where
   -- where the history was full there, it was full
   pub stops_delivery : (entries : List Entry) (e : ProgramFault)
-      → (max_history_len ≤ length entries → FillsHistory s unread left before after)
-      → FailsAfter entries e → StopsDelivery s unread left before after e
+      → (max_history_len ≤ length entries → FillsHistory meaning s unread left before after)
+      → FailsAfter entries e → StopsDelivery meaning s unread left before after e
   stops_delivery entries fault.NoMemory filled is = tt
   stops_delivery entries (fault.Refused resource error) filled is = is
   stops_delivery entries fault.HistoryFull filled is = filled is
@@ -56,7 +57,7 @@ module _ (s : DeliverSettings) (unread left before after : Option (List ℕ)) wh
   stops_delivery entries (fault.Stranger replica) filled is = absurd is
 
   -- other faults stop it anyway
-  pub stops_delivery_anyway : (e : ProgramFault) → IsMemoryOrAsked e → StopsDelivery s unread left before after e
+  pub stops_delivery_anyway : (e : ProgramFault) → IsMemoryOrAsked e → StopsDelivery meaning s unread left before after e
   stops_delivery_anyway fault.NoMemory is = tt
   stops_delivery_anyway (fault.Refused resource error) is = is
   stops_delivery_anyway fault.HistoryFull is = absurd is

@@ -1,4 +1,5 @@
 -- From the replies of a replica to what `abft deliver` prints.
+use Rattle.ledger_model.specs.Meanings.{Meanings}
 use Rattle.std.proofs.Common.{◌≡◌, ℕ, ◌≤◌, List, [], ◌++◌, length, refl, ap, sym, subst, ◌∙◌, inl, inr, arith}
 use Rattle.std.specs.Prelude.{Option}
 use Rattle.std.specs.Io.KnownBytes.{Appends}
@@ -25,17 +26,18 @@ use Rattle.program.proofs.AnsweringLemmas.{answers_both, some_after, some_longer
 use Rattle.ledger_model.specs.Limits.{max_history_len}
 
 -- nothing is a replay
-replay_none : (config : Config) (ring : Ring) (id : ℕ) → Replay config ring id []
+replay_none : (meaning : Meanings) (config : Config) (ring : Ring) (id : ℕ) → Replay meaning config ring id []
 unfolding Replay ReplaysFrom
-replay_none config ring id = tt
+replay_none meaning config ring id = tt
 
 -- what was added is a replay
-added_replay : (s : DeliverSettings) (d : StateView) (events : List Event) (text : List ℕ) → (answers : AnswersEvents (fresh s) events text d)
-    → Replay s.cluster.config (ring_of s.cluster) s.replica answers.added
-added_replay s d events text answers =
-    let replay = answers.grown.replay (replay_none s.cluster.config (ring_of s.cluster) s.replica) in
-    subst (λ l. Replay s.cluster.config (ring_of s.cluster) s.replica l) answers.grown.entries
-    (subst (λ (r : StateView). Replay r.config r.ring r.id d.entries) answers.grown.same replay)
+added_replay : (meaning : Meanings) (s : DeliverSettings) (d : StateView) (events : List Event) (text : List ℕ)
+    → (answers : AnswersEvents meaning (fresh meaning s) events text d)
+    → Replay meaning s.cluster.config (ring_of s.cluster) s.replica answers.added
+added_replay meaning s d events text answers =
+    let replay = answers.grown.replay (replay_none meaning s.cluster.config (ring_of s.cluster) s.replica) in
+    subst (λ l. Replay meaning s.cluster.config (ring_of s.cluster) s.replica l) answers.grown.entries
+    (subst (λ (r : StateView). Replay meaning r.config r.ring r.id d.entries) answers.grown.same replay)
 
 -- nothing was signed yet
 none_signed : signed_by [] ≡ 0
@@ -43,9 +45,10 @@ unfolding signed_after
 none_signed = refl
 
 -- after what was added the replica is mute only where its leaves were too few for what it had signed and what was due
-added_mute : (s : DeliverSettings) (d : StateView) (events : List Event) (text : List ℕ) → (answers : AnswersEvents (fresh s) events text d)
+added_mute : (meaning : Meanings) (s : DeliverSettings) (d : StateView) (events : List Event) (text : List ℕ)
+    → (answers : AnswersEvents meaning (fresh meaning s) events text d)
     → IsMuteOnlySpent s answers.added
-added_mute s d events text answers =
+added_mute meaning s d events text answers =
     let same = answers.grown.same in
     let signed = answers.grown.signed in
     let none = none_signed in
@@ -56,90 +59,103 @@ added_mute s d events text answers =
     (subst (λ (r : StateView). IsMuteForWant r.config r.id (leaves_of r.secret) 0 d.entries) same mute)
 
 -- all events were taken
-delivers : (s : DeliverSettings) (b d : StateView) (unread left before after : Option (List ℕ)) (end : StreamEnd)
-    → AnswersEvents (fresh s) (starting s) [] b
-    → (ended : StreamHasEnded b unread left before after d end) → Delivers s ended.input end (ended.text ++ last_line end)
-delivers s b d unread left before after end first ended =
-    let all = answers_both (fresh s) b d (starting s) (deliveries ended.frames) [] ended.text first ended.answers in record {
+delivers : (meaning : Meanings) (s : DeliverSettings) (b d : StateView) (unread left before after : Option (List ℕ)) (end : StreamEnd)
+    → AnswersEvents meaning (fresh meaning s) (starting s) [] b
+    → (ended : StreamHasEnded meaning b unread left before after d end) → Delivers meaning s ended.input end (ended.text ++ last_line end)
+delivers meaning s b d unread left before after end first ended =
+    let all = answers_both meaning (fresh meaning s) b d (starting s)
+    (deliveries ended.frames) [] ended.text first ended.answers in record {
       frames = ended.frames;
       stands = subst (λ (r : StateView). SplitsWithEnd r.config.frames ended.input ended.frames end) first.grown.same ended.stands;
       entries = all.added;
       events = all.these;
-      replay = added_replay s d (starting s ++ deliveries ended.frames) ended.text all;
-      mute = added_mute s d (starting s ++ deliveries ended.frames) ended.text all;
+      replay = added_replay meaning s d (starting s ++ deliveries ended.frames) ended.text all;
+      mute = added_mute meaning s d (starting s ++ deliveries ended.frames) ended.text all;
       lines = ap (λ l. l ++ last_line end) all.lines;
     }
 
 -- it came to the end
-pub done_to_end : (s : DeliverSettings) (a b d : StateView) (unread left before mid after : Option (List ℕ)) (end : StreamEnd)
-    → a ≡ fresh s → AnswersEvents a (starting s) [] b
-    → StreamHasEnded b unread left before mid d end → Appends mid after (last_line end) → DeliversStream s end unread left before after
-done_to_end s a b d unread left before mid after end is first ended last = (
+pub done_to_end : (meaning : Meanings) (s : DeliverSettings) (a b d : StateView) (unread left before mid after : Option (List ℕ))
+    (end : StreamEnd)
+    → a ≡ fresh meaning s → AnswersEvents meaning a (starting s) [] b
+    → StreamHasEnded meaning b unread left before mid d end → Appends mid after (last_line end)
+    → DeliversStream meaning s end unread left before after
+done_to_end meaning s a b d unread left before mid after end is first ended last = (
   ended.found,
   record {
     input = ended.input;
     text = ended.text ++ last_line end;
-    goes_with = delivers s b d unread left before mid end (subst (λ r. AnswersEvents r (starting s) [] b) is first) ended;
+    goes_with = delivers meaning s b d unread left before mid end (subst (λ r. AnswersEvents meaning r (starting s) [] b) is first) ended;
     read = ended.read;
     written = Appends-trans before mid after ended.text (last_line end) ended.written last;
   },
 )
 
 -- its last line could not be written
-pub halted_at_end : (s : DeliverSettings) (a b d : StateView) (unread left before mid after : Option (List ℕ)) (end : StreamEnd)
-    → a ≡ fresh s → AnswersEvents a (starting s) [] b
-    → StreamHasEnded b unread left before mid d end → AppendsSome mid after (last_line end) → DeliversStreamSome s unread left before after
-halted_at_end s a b d unread left before mid after end is first ended last = record {
+pub halted_at_end : (meaning : Meanings) (s : DeliverSettings) (a b d : StateView) (unread left before mid after : Option (List ℕ))
+    (end : StreamEnd)
+    → a ≡ fresh meaning s → AnswersEvents meaning a (starting s) [] b
+    → StreamHasEnded meaning b unread left before mid d end → AppendsSome mid after (last_line end)
+    → DeliversStreamSome meaning s unread left before after
+halted_at_end meaning s a b d unread left before mid after end is first ended last = record {
   input = ended.input;
   text = ended.text ++ last_line end;
-  goes_with = inr (end, delivers s b d unread left before mid end (subst (λ r. AnswersEvents r (starting s) [] b) is first) ended);
+  goes_with = inr (
+    end,
+    delivers meaning s b d unread left before mid end
+        (subst (λ r. AnswersEvents meaning r (starting s) [] b) is first) ended,
+  );
   read = ended.read;
   written = then_some before mid after ended.text (last_line end) ended.written last;
 }
 
 -- some events were taken of these bytes, and these are all entries of the replica
-abbrev pub SomeDelivered : DeliverSettings → List ℕ → List ℕ → StateView → Type 0
-SomeDelivered s input text d = (some : DeliversSome s input text) × (some.entries ≡ d.entries)
+abbrev pub SomeDelivered : Meanings → DeliverSettings → List ℕ → List ℕ → StateView → Type 0
+SomeDelivered meaning s input text d = (some : DeliversSome meaning s input text) × (some.entries ≡ d.entries)
 
 -- it stopped within the stream
-some_within : (s : DeliverSettings) (a b d : StateView) (unread left before after : Option (List ℕ)) → a ≡ fresh s
-    → AnswersEvents a (starting s) [] b
-    → (stopped : StreamHasStopped b unread left before after d) → SomeDelivered s stopped.input stopped.text d
-some_within s a b d unread left before after is first stopped =
-    let some = some_after (fresh s) b d (starting s) (deliveries stopped.frames) [] stopped.text
-    (subst (λ r. AnswersEvents r (starting s) [] b) is first) stopped.answers in (
+some_within : (meaning : Meanings) (s : DeliverSettings) (a b d : StateView) (unread left before after : Option (List ℕ))
+    → a ≡ fresh meaning s
+    → AnswersEvents meaning a (starting s) [] b
+    → (stopped : StreamHasStopped meaning b unread left before after d) → SomeDelivered meaning s stopped.input stopped.text d
+some_within meaning s a b d unread left before after is first stopped =
+    let some = some_after meaning (fresh meaning s) b d (starting s) (deliveries stopped.frames) [] stopped.text
+    (subst (λ r. AnswersEvents meaning r (starting s) [] b) is first) stopped.answers in (
       record {
         frames = stopped.frames;
         rest = stopped.rest;
         stands = subst (λ (r : StateView). Frames r.config.frames stopped.input stopped.frames stopped.rest)
-            (subst (λ r. AnswersEvents r (starting s) [] b) is first).grown.same stopped.stands;
+            (subst (λ r. AnswersEvents meaning r (starting s) [] b) is first).grown.same stopped.stands;
         entries = some.answers.added;
         later = some.later;
         events = ap (λ l. l ++ some.later) some.answers.these ∙ some.split;
-        replay = added_replay s some.last some.taken stopped.text some.answers;
-        mute = added_mute s some.last some.taken stopped.text some.answers;
+        replay = added_replay meaning s some.last some.taken stopped.text some.answers;
+        mute = added_mute meaning s some.last some.taken stopped.text some.answers;
         lines = some.answers.lines;
       },
       sym some.answers.grown.entries ∙ sym (ap (λ (r : StateView). r.entries) some.refused.same),
     )
 
-pub halted_within : (s : DeliverSettings) (a b d : StateView) (unread left before after : Option (List ℕ)) → a ≡ fresh s
-    → AnswersEvents a (starting s) [] b
-    → StreamHasStopped b unread left before after d → DeliversStreamSome s unread left before after
-halted_within s a b d unread left before after is first stopped = record {
+pub halted_within : (meaning : Meanings) (s : DeliverSettings) (a b d : StateView) (unread left before after : Option (List ℕ))
+    → a ≡ fresh meaning s
+    → AnswersEvents meaning a (starting s) [] b
+    → StreamHasStopped meaning b unread left before after d → DeliversStreamSome meaning s unread left before after
+halted_within meaning s a b d unread left before after is first stopped = record {
   input = stopped.input;
   text = stopped.text;
-  goes_with = inl (some_within s a b d unread left before after is first stopped).0;
+  goes_with = inl (some_within meaning s a b d unread left before after is first stopped).0;
   read = stopped.read;
   written = stopped.written;
 }
 
 -- and the history was full there
-pub filled_within : (s : DeliverSettings) (a b d : StateView) (unread left before after : Option (List ℕ)) → a ≡ fresh s
-    → AnswersEvents a (starting s) [] b
-    → StreamHasStopped b unread left before after d → max_history_len ≤ length d.entries → FillsHistory s unread left before after
-filled_within s a b d unread left before after is first stopped full =
-    let some = some_within s a b d unread left before after is first stopped in record {
+pub filled_within : (meaning : Meanings) (s : DeliverSettings) (a b d : StateView) (unread left before after : Option (List ℕ))
+    → a ≡ fresh meaning s
+    → AnswersEvents meaning a (starting s) [] b
+    → StreamHasStopped meaning b unread left before after d → max_history_len ≤ length d.entries
+    → FillsHistory meaning s unread left before after
+filled_within meaning s a b d unread left before after is first stopped full =
+    let some = some_within meaning s a b d unread left before after is first stopped in record {
       input = stopped.input;
       text = stopped.text;
       goes_with = (some.0, subst (λ l. max_history_len ≤ length l) (sym some.1) full);
@@ -148,9 +164,11 @@ filled_within s a b d unread left before after is first stopped full =
     }
 
 -- it stopped before the first frame
-some_before : (s : DeliverSettings) (a b : StateView) → a ≡ fresh s → AnswersSome a (starting s) [] b → SomeDelivered s [] [] b
-some_before s a b is first =
-    let some = some_longer (fresh s) b (starting s) [] [] (subst (λ r. AnswersSome r (starting s) [] b) is first) in (
+some_before : (meaning : Meanings) (s : DeliverSettings) (a b : StateView) → a ≡ fresh meaning s → AnswersSome meaning a (starting s) [] b
+    → SomeDelivered meaning s [] [] b
+some_before meaning s a b is first =
+    let some = some_longer meaning (fresh meaning s) b (starting s) [] []
+    (subst (λ r. AnswersSome meaning r (starting s) [] b) is first) in (
       record {
         frames = [];
         rest = [];
@@ -158,28 +176,28 @@ some_before s a b is first =
         entries = some.answers.added;
         later = some.later;
         events = ap (λ l. l ++ some.later) some.answers.these ∙ some.split;
-        replay = added_replay s some.last some.taken [] some.answers;
-        mute = added_mute s some.last some.taken [] some.answers;
+        replay = added_replay meaning s some.last some.taken [] some.answers;
+        mute = added_mute meaning s some.last some.taken [] some.answers;
         lines = some.answers.lines;
       },
       sym some.answers.grown.entries ∙ sym (ap (λ (r : StateView). r.entries) some.refused.same),
     )
 
-pub halted_before : (s : DeliverSettings) (a b : StateView) (unread before : Option (List ℕ)) → a ≡ fresh s
-    → AnswersSome a (starting s) [] b → DeliversStreamSome s unread unread before before
-halted_before s a b unread before is first = record {
+pub halted_before : (meaning : Meanings) (s : DeliverSettings) (a b : StateView) (unread before : Option (List ℕ)) → a ≡ fresh meaning s
+    → AnswersSome meaning a (starting s) [] b → DeliversStreamSome meaning s unread unread before before
+halted_before meaning s a b unread before is first = record {
   input = [];
   text = [];
-  goes_with = inl (some_before s a b is first).0;
+  goes_with = inl (some_before meaning s a b is first).0;
   read = Consumes-nil unread;
   written = nothing_some before [];
 }
 
-pub filled_before : (s : DeliverSettings) (a b : StateView) (unread before : Option (List ℕ)) → a ≡ fresh s
-    → AnswersSome a (starting s) [] b → max_history_len ≤ length b.entries
-    → FillsHistory s unread unread before before
-filled_before s a b unread before is first full =
-    let some = some_before s a b is first in record {
+pub filled_before : (meaning : Meanings) (s : DeliverSettings) (a b : StateView) (unread before : Option (List ℕ)) → a ≡ fresh meaning s
+    → AnswersSome meaning a (starting s) [] b → max_history_len ≤ length b.entries
+    → FillsHistory meaning s unread unread before before
+filled_before meaning s a b unread before is first full =
+    let some = some_before meaning s a b is first in record {
       input = [];
       text = [];
       goes_with = (some.0, subst (λ l. max_history_len ≤ length l) (sym some.1) full);
@@ -188,8 +206,9 @@ filled_before s a b unread before is first full =
     }
 
 -- no replica could be made
-pub halted_at_first : (s : DeliverSettings) (unread before : Option (List ℕ)) → DeliversStreamSome s unread unread before before
-halted_at_first s unread before = record {
+pub halted_at_first : (meaning : Meanings) (s : DeliverSettings) (unread before : Option (List ℕ))
+    → DeliversStreamSome meaning s unread unread before before
+halted_at_first meaning s unread before = record {
   input = [];
   text = [];
   goes_with = inl (record {
@@ -199,7 +218,7 @@ halted_at_first s unread before = record {
     entries = [];
     later = starting s ++ deliveries [];
     events = refl;
-    replay = replay_none s.cluster.config (ring_of s.cluster) s.replica;
+    replay = replay_none meaning s.cluster.config (ring_of s.cluster) s.replica;
     mute = λ mute. absurd (cc mute);
     lines = refl;
   });

@@ -1,4 +1,5 @@
 -- From the commands that are played to what `abft simulate` prints.
+use Rattle.ledger_model.specs.Meanings.{Meanings}
 use Rattle.std.proofs.Common.{◌≡◌, ℕ, ◌≤◌, Bool, true, false, not, List, [], ◌++◌, length, take, refl, sym, subst, ◌∙◌, inl, inr}
 use Rattle.std.proofs.Common.{append-nil, arith, lit≤}
 use Rattle.std.proofs.lemmas.List.{length-take}
@@ -42,24 +43,26 @@ text_begun false lines histories before mid after first last =
     subst (AppendsSome before after) (append-nil lines) (then_some before mid after lines [] first last)
 
 -- the text of a plan that was played was written
-abbrev pub PlayedWritten : SimulateSettings → Plan → Option (List ℕ) → Option (List ℕ) → Type 0
-PlayedWritten s p before after = (text : List ℕ) × (Played s p text × Appends before after text)
+abbrev pub PlayedWritten : Meanings → SimulateSettings → Plan → Option (List ℕ) → Option (List ℕ) → Type 0
+PlayedWritten meaning s p before after = (text : List ℕ) × (Played meaning s p text × Appends before after text)
 
 -- a prefix of the text of a plan that was played, or of its first commands
-abbrev pub PlayedBegun : SimulateSettings → Plan → Option (List ℕ) → Option (List ℕ) → Type 0
-PlayedBegun s p before after = (text : List ℕ) × ((PlayedSome s p text ⊎ Played s p text) × AppendsSome before after text)
+abbrev pub PlayedBegun : Meanings → SimulateSettings → Plan → Option (List ℕ) → Option (List ℕ) → Type 0
+PlayedBegun meaning s p before after = (text : List ℕ) × ((PlayedSome meaning s p text ⊎ Played meaning s p text)
+    × AppendsSome before after text)
 
-module _ (s : SimulateSettings) (p : Plan) (config : Config) (sized : IsConfigOf p config) where
+module _ (meaning : Meanings) (s : SimulateSettings) (p : Plan) (config : Config) (sized : IsConfigOf p config) where
   -- all commands were played
-  played_of : (a b : SimulationView) (lines : List ℕ) → a ≡ simulation_at_start s.seed config p → PlaysAll a p.commands lines b → HasRun b.cluster
-      → (IsUnforgedRun b.cluster → IsOneLedger b.cluster) → AllReplay b.cluster → AllAccountForLeaves b.cluster
-      → Played s p (if s.histories then histories_of b.cluster else lines)
+  played_of : (a b : SimulationView) (lines : List ℕ) → a ≡ simulation_at_start meaning s.seed config p
+      → PlaysAll meaning a p.commands lines b → HasRun meaning b.cluster
+      → (IsUnforgedRun b.cluster → IsOneLedger meaning b.cluster) → AllReplay meaning b.cluster → AllAccountForLeaves b.cluster
+      → Played meaning s p (if s.histories then histories_of b.cluster else lines)
   played_of a b lines opens plays since one_ledger replay account = record {
     config = config;
     sized = sized;
     lines = lines;
     final = b;
-    plays = subst (λ x. PlaysAll x p.commands lines b) opens plays;
+    plays = subst (λ x. PlaysAll meaning x p.commands lines b) opens plays;
     since = since;
     one_ledger = one_ledger;
     replay = replay;
@@ -68,10 +71,11 @@ module _ (s : SimulateSettings) (p : Plan) (config : Config) (sized : IsConfigOf
   }
 
   -- and what is wanted was written
-  pub played_whole : (a b : SimulationView) (before mid after : Option (List ℕ)) → a ≡ simulation_at_start s.seed config p
-      → PlaysWritten (not s.histories) a p.commands b before mid
-      → HasRun b.cluster → (IsUnforgedRun b.cluster → IsOneLedger b.cluster) → AllReplay b.cluster → AllAccountForLeaves b.cluster
-      → Appends mid after (if s.histories then histories_of b.cluster else []) → PlayedWritten s p before after
+  pub played_whole : (a b : SimulationView) (before mid after : Option (List ℕ)) → a ≡ simulation_at_start meaning s.seed config p
+      → PlaysWritten meaning (not s.histories) a p.commands b before mid
+      → HasRun meaning b.cluster → (IsUnforgedRun b.cluster → IsOneLedger meaning b.cluster) → AllReplay meaning b.cluster
+      → AllAccountForLeaves b.cluster
+      → Appends mid after (if s.histories then histories_of b.cluster else []) → PlayedWritten meaning s p before after
   played_whole a b before mid after opens (lines, (plays, first)) since one_ledger replay account last = (
     if s.histories then histories_of b.cluster else lines,
     (
@@ -82,10 +86,11 @@ module _ (s : SimulateSettings) (p : Plan) (config : Config) (sized : IsConfigOf
   )
 
   -- or a prefix of it
-  pub played_begun : (a b : SimulationView) (before mid after : Option (List ℕ)) → a ≡ simulation_at_start s.seed config p
-      → PlaysWritten (not s.histories) a p.commands b before mid
-      → HasRun b.cluster → (IsUnforgedRun b.cluster → IsOneLedger b.cluster) → AllReplay b.cluster → AllAccountForLeaves b.cluster
-      → AppendsSome mid after (if s.histories then histories_of b.cluster else []) → PlayedBegun s p before after
+  pub played_begun : (a b : SimulationView) (before mid after : Option (List ℕ)) → a ≡ simulation_at_start meaning s.seed config p
+      → PlaysWritten meaning (not s.histories) a p.commands b before mid
+      → HasRun meaning b.cluster → (IsUnforgedRun b.cluster → IsOneLedger meaning b.cluster) → AllReplay meaning b.cluster
+      → AllAccountForLeaves b.cluster
+      → AppendsSome mid after (if s.histories then histories_of b.cluster else []) → PlayedBegun meaning s p before after
   played_begun a b before mid after opens (lines, (plays, first)) since one_ledger replay account last = (
     if s.histories then histories_of b.cluster else lines,
     (
@@ -96,26 +101,29 @@ module _ (s : SimulateSettings) (p : Plan) (config : Config) (sized : IsConfigOf
   )
 
   -- the first commands were played
-  pub played_part : (a : SimulationView) (before after : Option (List ℕ)) → a ≡ simulation_at_start s.seed config p
-      → PlaysWrittenSome (not s.histories) a p.commands before after → PlayedBegun s p before after
+  pub played_part : (a : SimulationView) (before after : Option (List ℕ)) → a ≡ simulation_at_start meaning s.seed config p
+      → PlaysWrittenSome meaning (not s.histories) a p.commands before after → PlayedBegun meaning s p before after
   played_part a before after opens part =
-      let (lines, (some, written)) = subst (λ x. PlaysWrittenSome (not s.histories) x p.commands before after) opens part in
+      let (lines, (some, written)) = subst (λ x. PlaysWrittenSome meaning (not s.histories) x p.commands before after) opens part in
       (if_wanted (not s.histories) lines, (inl (config, (sized, (lines, (some, refl)))), written))
 
   -- none was
-  pub played_nothing : (before : Option (List ℕ)) → PlayedBegun s p before before
-  played_nothing before = played_part (simulation_at_start s.seed config p) before before refl
-      (written_nothing (not s.histories) (simulation_at_start s.seed config p) p.commands before)
+  pub played_nothing : (before : Option (List ℕ)) → PlayedBegun meaning s p before before
+  played_nothing before = played_part (simulation_at_start meaning s.seed config p) before before refl
+      (written_nothing meaning (not s.histories) (simulation_at_start meaning s.seed config p) p.commands before)
 
-module _ (s : SimulateSettings) (input : List ℕ) (unread left before after : Option (List ℕ)) (read : Consumes unread left input)
+module _ (meaning : Meanings) (s : SimulateSettings) (input : List ℕ) (unread left before after : Option (List ℕ))
+    (read : Consumes unread left input)
     (in_time : IsReadInTime input) where
   -- the plan of the text was played
-  pub simulated : (p : Plan) → SpellsPlan input p → IsAtEnd left → PlayedWritten s p before after → PlaysText s Whole unread left before after
+  pub simulated : (p : Plan) → SpellsPlan input p → IsAtEnd left → PlayedWritten meaning s p before after
+      → PlaysText meaning s Whole unread left before after
   simulated p spells to_end (text, (played, written)) =
       record { input = input; text = text; goes_with = (to_end, (in_time, (p, (spells, played)))); read = read; written = written }
 
   -- or begun
-  pub simulated_part : (p : Plan) → SpellsPlan input p → PlayedBegun s p before after → PlaysTextSome s unread left before after
+  pub simulated_part : (p : Plan) → SpellsPlan input p → PlayedBegun meaning s p before after
+      → PlaysTextSome meaning s unread left before after
   simulated_part p spells (text, (inl some, written)) =
       record { input = input; text = text; goes_with = (in_time, inl (inr (p, (spells, some)))); read = read; written = written }
   simulated_part p spells (text, (inr played, written)) =
@@ -123,11 +131,11 @@ module _ (s : SimulateSettings) (input : List ℕ) (unread left before after : O
 
   -- its first bad line was printed
   pub told_bad : (n : ℕ) → IsBadAt input n → IsAtEnd left ⊎ IsBadAnyway input n → Appends before after (bad_line n)
-      → PlaysText s (BadLine n) unread left before after
+      → PlaysText meaning s (BadLine n) unread left before after
   told_bad n bad shown written =
       record { input = input; text = bad_line n; goes_with = (shown, (in_time, (bad, refl))); read = read; written = written }
 
-  pub told_part : (n : ℕ) → IsBadAt input n → AppendsSome before after (bad_line n) → PlaysTextSome s unread left before after
+  pub told_part : (n : ℕ) → IsBadAt input n → AppendsSome before after (bad_line n) → PlaysTextSome meaning s unread left before after
   told_part n bad written = record {
     input = input;
     text = bad_line n;
@@ -179,9 +187,10 @@ pub bad_read : (found : ScenarioInput) (n : ℕ) (unread left : Option (List ℕ
 bad_read found n unread left is read = subst (λ f. IsRead f unread left) is read
 
 -- nothing was written
-pub read_only : (s : SimulateSettings) (input : List ℕ) (unread left before : Option (List ℕ)) → Consumes unread left input
-    → IsReadInTime input → PlaysTextSome s unread left before before
-read_only s input unread left before read in_time =
+pub read_only : (meaning : Meanings) (s : SimulateSettings) (input : List ℕ) (unread left before : Option (List ℕ))
+    → Consumes unread left input
+    → IsReadInTime input → PlaysTextSome meaning s unread left before before
+read_only meaning s input unread left before read in_time =
     record { input = input; text = []; goes_with = (in_time, inl (inl refl)); read = read; written = nothing_some before [] }
 
 -- the first bad line has one number

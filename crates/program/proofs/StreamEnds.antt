@@ -1,4 +1,5 @@
 -- A stream that starts, ends or fails.
+use Rattle.ledger_model.specs.Meanings.{Meanings}
 use Rattle.std.proofs.Common.{◌≡◌, ℕ, List, [], ◌∷◌, take, refl, sym, ap, subst, ◌∙◌, append-nil, inl, lit<, arith}
 use Rattle.std.specs.Prelude.{Option, Some, None}
 use Rattle.std.specs.Io.KnownBytes.{Consumes, Keeps}
@@ -17,9 +18,10 @@ use Rattle.byte_streams.proofs.WritingLemmas.{all_some}
 use Rattle.program.proofs.AnsweringLemmas.{answers_none, some_all}
 
 -- nothing was read yet
-pub begun : (start : StateView) (unread before : Option (List ℕ)) (reader : FrameReaderView) → reader.state ≡ Reading []
-    → reader.version ≡ start.config.frames → UnderWay start unread unread before before start reader
-begun start unread before reader reading version = record {
+pub begun : (meaning : Meanings) (start : StateView) (unread before : Option (List ℕ)) (reader : FrameReaderView)
+    → reader.state ≡ Reading []
+    → reader.version ≡ start.config.frames → UnderWay meaning start unread unread before before start reader
+begun meaning start unread before reader reading version = record {
   input = [];
   frames = [];
   text = [];
@@ -28,18 +30,19 @@ begun start unread before reader reading version = record {
   version = version;
   reading = reading;
   given = ((tt, refl), inl (lit< tt));
-  answers = answers_none start;
+  answers = answers_none meaning start;
   written = Appends-nil before;
 }
 
 -- nothing was left to read
-pub ended_of : (start state : StateView) (unread now left before out : Option (List ℕ)) (reader : FrameReaderView) (end : StreamEnd)
+pub ended_of : (meaning : Meanings) (start state : StateView) (unread now left before out : Option (List ℕ)) (reader : FrameReaderView)
+    (end : StreamEnd)
     (n : ℕ) (piece : List ℕ)
-    → UnderWay start unread now before out state reader → Consumes now left (take n piece) → n ≡ 0 → IsReadTo end left
+    → UnderWay meaning start unread now before out state reader → Consumes now left (take n piece) → n ≡ 0 → IsReadTo end left
     → ((input : List ℕ) (given : List SignedStatement) (kept : List ℕ) → reader.state ≡ Reading kept
     → SplitsTo reader.version input given kept → SplitsWithEnd reader.version input given end)
-    → StreamHasEnded start unread left before out state end
-ended_of start state unread now left before out reader end n piece so_far read none to_end stands =
+    → StreamHasEnded meaning start unread left before out state end
+ended_of meaning start state unread now left before out reader end n piece so_far read none to_end stands =
     let nothing : Consumes now left [] = subst (λ k. Consumes now left (take k piece)) none read in record {
       input = so_far.input;
       frames = so_far.frames;
@@ -54,31 +57,33 @@ ended_of start state unread now left before out reader end n piece so_far read n
     }
 
 -- a fault was found
-pub ends_at : (start state : StateView) (unread left before after : Option (List ℕ)) (reader : FrameReaderView)
+pub ends_at : (meaning : Meanings) (start state : StateView) (unread left before after : Option (List ℕ)) (reader : FrameReaderView)
     (found : Option StreamFault) (fault : StreamFault) → found ≡ Some fault
-    → ContinuesStream start unread left before after state reader found → StreamHasEnded start unread left before after state (Fault fault)
-ends_at start state unread left before after reader found fault is goes =
-    subst (λ f. ContinuesStream start unread left before after state reader f) is goes
+    → ContinuesStream meaning start unread left before after state reader found
+    → StreamHasEnded meaning start unread left before after state (Fault fault)
+ends_at meaning start state unread left before after reader found fault is goes =
+    subst (λ f. ContinuesStream meaning start unread left before after state reader f) is goes
 
 -- none was found
-pub goes_on : (start state : StateView) (unread left before after : Option (List ℕ)) (reader : FrameReaderView)
+pub goes_on : (meaning : Meanings) (start state : StateView) (unread left before after : Option (List ℕ)) (reader : FrameReaderView)
     (found : Option StreamFault) → found ≡ None
-    → ContinuesStream start unread left before after state reader found → UnderWay start unread left before after state reader
-goes_on start state unread left before after reader found is goes =
-    subst (λ f. ContinuesStream start unread left before after state reader f) is goes
+    → ContinuesStream meaning start unread left before after state reader found
+    → UnderWay meaning start unread left before after state reader
+goes_on meaning start state unread left before after reader found is goes =
+    subst (λ f. ContinuesStream meaning start unread left before after state reader f) is goes
 
 -- nothing more could be read
-pub stopped_of : (start state : StateView) (unread now left before out : Option (List ℕ)) (reader : FrameReaderView)
-    → UnderWay start unread now before out state reader → Keeps now left
-    → StreamHasStopped start unread left before out state
-stopped_of start state unread now left before out reader so_far keeps = record {
+pub stopped_of : (meaning : Meanings) (start state : StateView) (unread now left before out : Option (List ℕ)) (reader : FrameReaderView)
+    → UnderWay meaning start unread now before out state reader → Keeps now left
+    → StreamHasStopped meaning start unread left before out state
+stopped_of meaning start state unread now left before out reader so_far keeps = record {
   input = so_far.input;
   frames = so_far.frames;
   rest = so_far.kept;
   text = so_far.text;
   read = Consumes-kept unread now left so_far.input so_far.read keeps;
   stands = so_far.given.0;
-  answers = some_all start state (deliveries so_far.frames) so_far.text so_far.answers;
+  answers = some_all meaning start state (deliveries so_far.frames) so_far.text so_far.answers;
   written = all_some before out so_far.text so_far.written;
 }
 

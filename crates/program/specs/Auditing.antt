@@ -1,4 +1,5 @@
 -- What `abft audit` writes for the bytes that it reads.
+use Rattle.ledger_model.specs.Meanings.{Meanings}
 use Rattle.std.specs.Prelude.{◌≡◌, ℕ, Bool, true, false, List, ◌++◌, Option, Some, None, Result, Ok, Err}
 use Rattle.ledger_model.specs.declared.history.History.{History}
 use Rattle.ledger_model.specs.Values.{Value}
@@ -27,16 +28,16 @@ audit_status (Ok ledger) (Some false) = 1
 audit_status finding receipt = finding_status finding
 
 -- an audit of these histories has this status, and this is printed of what it finds
-pub record Audited (s : AuditSettings) (histories : List History) (status : ℕ) (text : List ℕ) : Type 0 where
+pub record Audited (meaning : Meanings) (s : AuditSettings) (histories : List History) (status : ℕ) (text : List ℕ) : Type 0 where
   pub finding : Result (List Value) AuditFault
-  pub found : IsFinding s.cluster.config (ring_of s.cluster) histories finding
+  pub found : IsFinding meaning s.cluster.config (ring_of s.cluster) histories finding
   pub ends : status ≡ audit_status finding (receipt_check s.receipt histories)
   pub shows : text ≡ audit_text finding (receipt_check s.receipt histories)
 
 -- the whole input was read, and what is printed for it was written
-abbrev pub Audits : AuditSettings → ℕ → Option (List ℕ) → Option (List ℕ) → Option (List ℕ) → Option (List ℕ) → Type 0
-Audits s status unread left before after = Outputs s.cluster.config.frames (Audited s) status unread left before after
+abbrev pub Audits : Meanings → AuditSettings → ℕ → Option (List ℕ) → Option (List ℕ) → Option (List ℕ) → Option (List ℕ) → Type 0
+Audits meaning s status unread left before after = Outputs s.cluster.config.frames (Audited meaning s) status unread left before after
 
 -- nothing was written, or the whole input was read, and a prefix of what is printed for it was written
-abbrev pub AuditsSome : AuditSettings → Option (List ℕ) → Option (List ℕ) → Option (List ℕ) → Option (List ℕ) → Type 0
-AuditsSome s unread left before after = OutputsSome s.cluster.config.frames (Audited s) unread left before after
+abbrev pub AuditsSome : Meanings → AuditSettings → Option (List ℕ) → Option (List ℕ) → Option (List ℕ) → Option (List ℕ) → Type 0
+AuditsSome meaning s unread left before after = OutputsSome s.cluster.config.frames (Audited meaning s) unread left before after

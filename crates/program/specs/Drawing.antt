@@ -1,4 +1,5 @@
 -- What `abft draw` writes for the bytes that it reads.
+use Rattle.ledger_model.specs.Meanings.{Meanings}
 use Rattle.std.specs.Prelude.{◌≡◌, ℕ, ◌==◌, List, Option, Some, None, if◌then◌else◌}
 use Rattle.ledger_model.specs.declared.history.History.{History}
 use Rattle.cluster_setup.specs.Keys.{ring_of}
@@ -24,16 +25,16 @@ picture_status None = 0
 picture_status (Some b) = 1
 
 -- the text is the picture of what these histories show in the part, under the keys of the cluster, and this is its status
-pub record Drawn (s : DrawSettings) (histories : List History) (status : ℕ) (text : List ℕ) : Type 0 where
+pub record Drawn (meaning : Meanings) (s : DrawSettings) (histories : List History) (status : ℕ) (text : List ℕ) : Type 0 where
   pub picture : Picture
-  pub shows : IsPictureOf s.cluster.config (ring_of s.cluster) histories (part_of s) picture
+  pub shows : IsPictureOf meaning s.cluster.config (ring_of s.cluster) histories (part_of s) picture
   pub ends : status ≡ picture_status picture.first_break
   pub prints : text ≡ picture_text picture
 
 -- the whole input was read, and what is written for it was written
-abbrev pub Draws : DrawSettings → ℕ → Option (List ℕ) → Option (List ℕ) → Option (List ℕ) → Option (List ℕ) → Type 0
-Draws s status unread left before after = Outputs s.cluster.config.frames (Drawn s) status unread left before after
+abbrev pub Draws : Meanings → DrawSettings → ℕ → Option (List ℕ) → Option (List ℕ) → Option (List ℕ) → Option (List ℕ) → Type 0
+Draws meaning s status unread left before after = Outputs s.cluster.config.frames (Drawn meaning s) status unread left before after
 
 -- nothing was written, or the whole input was read, and a prefix of what is written for it was written
-abbrev pub DrawsSome : DrawSettings → Option (List ℕ) → Option (List ℕ) → Option (List ℕ) → Option (List ℕ) → Type 0
-DrawsSome s unread left before after = OutputsSome s.cluster.config.frames (Drawn s) unread left before after
+abbrev pub DrawsSome : Meanings → DrawSettings → Option (List ℕ) → Option (List ℕ) → Option (List ℕ) → Option (List ℕ) → Type 0
+DrawsSome meaning s unread left before after = OutputsSome s.cluster.config.frames (Drawn meaning s) unread left before after

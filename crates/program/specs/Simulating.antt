@@ -1,4 +1,5 @@
 -- What `abft simulate` writes for a scenario.
+use Rattle.ledger_model.specs.Meanings.{Meanings}
 use Rattle.std.specs.Prelude.{◌≡◌, ◌⊎◌, ℕ, ◌≤◌, Bool, not, List, [], ◌∷◌, ◌++◌, length, codes, decimal, Option, Result, MatchResult}
 use Rattle.std.specs.Prelude.{unwrap_or, if◌then◌else◌}
 use Rattle.std.specs.List.{flat_map}
@@ -35,8 +36,12 @@ abbrev pub cluster_of : List ℕ → Config → Plan → ClusterSeed
 cluster_of seed config p = record { config = config; params = unwrap_or p.keys small_keys; seed = seed }
 
 -- the cluster at its start, with no lie
-abbrev pub simulation_at_start : List ℕ → Config → Plan → SimulationView
-simulation_at_start seed config p = record { cluster = new_cluster config (secret_of (cluster_of seed config p)) p.liars; lies = [] }
+abbrev pub simulation_at_start : Meanings → List ℕ → Config → Plan → SimulationView
+simulation_at_start meaning seed config p = record {
+  cluster = new_cluster meaning config
+      (secret_of (cluster_of seed config p)) p.liars;
+  lies = [];
+}
 
 -- the histories of the correct replicas as bytes, in ascending order of their numbers
 abbrev pub histories_of : WorldView → List ℕ
@@ -49,44 +54,44 @@ if_wanted wanted lines = if wanted then lines else []
 -- The commands of the plan were played in a run from the start, which is a run of one sequential ledger if nothing was forged. The
 -- history of each correct replica is a replay, and it is mute only if too few leaves were left. The text is the lines of the
 -- commands, or the histories at the end.
-pub record Played (s : SimulateSettings) (p : Plan) (text : List ℕ) : Type 0 where
+pub record Played (meaning : Meanings) (s : SimulateSettings) (p : Plan) (text : List ℕ) : Type 0 where
   pub config : Config
   pub sized : IsConfigOf p config
   pub lines : List ℕ
   pub final : SimulationView
-  pub plays : PlaysAll (simulation_at_start s.seed config p) p.commands lines final
-  pub since : HasRun final.cluster
-  pub one_ledger : IsUnforgedRun final.cluster → IsOneLedger final.cluster
-  pub replay : AllReplay final.cluster
+  pub plays : PlaysAll meaning (simulation_at_start meaning s.seed config p) p.commands lines final
+  pub since : HasRun meaning final.cluster
+  pub one_ledger : IsUnforgedRun final.cluster → IsOneLedger meaning final.cluster
+  pub replay : AllReplay meaning final.cluster
   pub account : AllAccountForLeaves final.cluster
   pub written : text ≡ if s.histories then histories_of final.cluster else lines
 
 -- the first commands of a list were played, with these lines
-pub record PlaysSome (old : SimulationView) (commands : List Command) (lines : List ℕ) : Type 0 where
+pub record PlaysSome (meaning : Meanings) (old : SimulationView) (commands : List Command) (lines : List ℕ) : Type 0 where
   pub taken : List Command
   pub later : List Command
   pub split : taken ++ later ≡ commands
   pub new : SimulationView
-  pub plays : PlaysAll old taken lines new
+  pub plays : PlaysAll meaning old taken lines new
 
 -- the first commands of the plan were played, and the text is their lines, if lines are wanted
-abbrev pub PlayedSome : SimulateSettings → Plan → List ℕ → Type 0
-PlayedSome s p text = (config : Config)
+abbrev pub PlayedSome : Meanings → SimulateSettings → Plan → List ℕ → Type 0
+PlayedSome meaning s p text = (config : Config)
     × (IsConfigOf p config × ((lines : List ℕ)
-    × (PlaysSome (simulation_at_start s.seed config p) p.commands lines × (text ≡ if_wanted (not s.histories) lines))))
+    × (PlaysSome meaning (simulation_at_start meaning s.seed config p) p.commands lines × (text ≡ if_wanted (not s.histories) lines))))
 
 -- the line with the number of a bad line
 abbrev pub bad_line : ℕ → List ℕ
 bad_line n = codes "line " ++ decimal n ++ codes " bad" ++ 10 ∷ []
 
 -- what is printed for an input: the text of the plan that it encodes, or its first bad line
-abbrev pub Simulates : SimulateSettings → List ℕ → TextEnd → List ℕ → Type 0
-Simulates s input Whole text = (p : Plan) × (SpellsPlan input p × Played s p text)
-Simulates s input (BadLine n) text = IsBadAt input n × (text ≡ bad_line n)
+abbrev pub Simulates : Meanings → SimulateSettings → List ℕ → TextEnd → List ℕ → Type 0
+Simulates meaning s input Whole text = (p : Plan) × (SpellsPlan input p × Played meaning s p text)
+Simulates meaning s input (BadLine n) text = IsBadAt input n × (text ≡ bad_line n)
 
 -- a part of what is printed for an input: nothing, or the lines of the first commands
-abbrev pub SimulatesSome : SimulateSettings → List ℕ → List ℕ → Type 0
-SimulatesSome s input text = (text ≡ []) ⊎ ((p : Plan) × (SpellsPlan input p × PlayedSome s p text))
+abbrev pub SimulatesSome : Meanings → SimulateSettings → List ℕ → List ℕ → Type 0
+SimulatesSome meaning s input text = (text ≡ []) ⊎ ((p : Plan) × (SpellsPlan input p × PlayedSome meaning s p text))
 
 -- line n is the first bad one, however the text continues
 abbrev pub IsBadAnyway : List ℕ → ℕ → Type 0
@@ -106,14 +111,16 @@ IsReadFor Whole input left = IsAtEnd left
 IsReadFor (BadLine n) input left = IsAtEnd left ⊎ IsBadAnyway input n
 
 -- a text was read as far as its result needs, and what is printed for it was written
-abbrev pub PlaysText : SimulateSettings → TextEnd → Option (List ℕ) → Option (List ℕ) → Option (List ℕ) → Option (List ℕ) → Type 0
-PlaysText s end unread left before after =
-    Responds (λ input text. IsReadFor end input left × (IsReadInTime input × Simulates s input end text)) unread left before after
+abbrev pub PlaysText : Meanings → SimulateSettings → TextEnd → Option (List ℕ) → Option (List ℕ) → Option (List ℕ) → Option (List ℕ)
+    → Type 0
+PlaysText meaning s end unread left before after =
+    Responds (λ input text. IsReadFor end input left × (IsReadInTime input × Simulates meaning s input end text)) unread left before after
 
 -- part of the input was read, and a prefix of what is printed for it was written
-abbrev pub PlaysTextSome : SimulateSettings → Option (List ℕ) → Option (List ℕ) → Option (List ℕ) → Option (List ℕ) → Type 0
-PlaysTextSome s unread left before after =
-    RespondsSome (λ input text. IsReadInTime input × (SimulatesSome s input text ⊎ ((end : TextEnd) × Simulates s input end text))) unread
+abbrev pub PlaysTextSome : Meanings → SimulateSettings → Option (List ℕ) → Option (List ℕ) → Option (List ℕ) → Option (List ℕ) → Type 0
+PlaysTextSome meaning s unread left before after =
+    RespondsSome (λ input text. IsReadInTime input × (SimulatesSome meaning s input text
+    ⊎ ((end : TextEnd) × Simulates meaning s input end text))) unread
     left before after
 
 -- ---- the results of calls
@@ -127,18 +134,18 @@ IsRead (input.BadLine n) unread left =
     (text : List ℕ) × (Consumes unread left text × (IsReadInTime text × ((IsAtEnd left ⊎ IsBadAnyway text n) × IsBadAt text n)))
 
 -- the commands were played, and their lines were written if they are wanted
-abbrev pub PlaysWritten : Bool → SimulationView → List Command → SimulationView → Option (List ℕ) → Option (List ℕ) → Type 0
-PlaysWritten wanted old commands new before after =
-    (lines : List ℕ) × (PlaysAll old commands lines new × Appends before after (if_wanted wanted lines))
+abbrev pub PlaysWritten : Meanings → Bool → SimulationView → List Command → SimulationView → Option (List ℕ) → Option (List ℕ) → Type 0
+PlaysWritten meaning wanted old commands new before after =
+    (lines : List ℕ) × (PlaysAll meaning old commands lines new × Appends before after (if_wanted wanted lines))
 
 -- the first commands were played, and a prefix of their lines was written
-abbrev pub PlaysWrittenSome : Bool → SimulationView → List Command → Option (List ℕ) → Option (List ℕ) → Type 0
-PlaysWrittenSome wanted old commands before after =
-    (lines : List ℕ) × (PlaysSome old commands lines × AppendsSome before after (if_wanted wanted lines))
+abbrev pub PlaysWrittenSome : Meanings → Bool → SimulationView → List Command → Option (List ℕ) → Option (List ℕ) → Type 0
+PlaysWrittenSome meaning wanted old commands before after =
+    (lines : List ℕ) × (PlaysSome meaning old commands lines × AppendsSome before after (if_wanted wanted lines))
 
 -- The plan was played and what is printed for it was written; or, after a fault, it was played in whole or in part, and
 -- a prefix was written.
-abbrev pub PlansWritten : {T E : Type 0} → Result T E → SimulateSettings → Plan → Option (List ℕ) → Option (List ℕ) → Type 0
-PlansWritten result s p before after = MatchResult result
-    (λ _. (text : List ℕ) × (Played s p text × Appends before after text))
-    (λ _. (text : List ℕ) × ((PlayedSome s p text ⊎ Played s p text) × AppendsSome before after text))
+abbrev pub PlansWritten : Meanings → {T E : Type 0} → Result T E → SimulateSettings → Plan → Option (List ℕ) → Option (List ℕ) → Type 0
+PlansWritten meaning result s p before after = MatchResult result
+    (λ _. (text : List ℕ) × (Played meaning s p text × Appends before after text))
+    (λ _. (text : List ℕ) × ((PlayedSome meaning s p text ⊎ Played meaning s p text) × AppendsSome before after text))

@@ -1,4 +1,5 @@
 -- A stream whose frames are delivered: how it ends, and what is printed.
+use Rattle.ledger_model.specs.Meanings.{Meanings}
 use Rattle.std.specs.Prelude.{◌≡◌, ◌⊎◌, ℕ, ◌≤◌, List, [], ◌++◌, length, map, Option, Some, None, IsTrue, ⊤}
 use Rattle.std.specs.Io.KnownBytes.{Appends, Consumes, IsAtEnd}
 use Rattle.ledger_model.specs.declared.event.Event.{Event}
@@ -67,7 +68,8 @@ GoesBehind bytes frames reader None = (kept : List ℕ) × ((reader.state ≡ Re
 GoesBehind bytes frames reader (Some fault) = Breaks reader.version fault bytes frames
 
 -- since the start, these bytes were read from the stream, their frames were delivered, and the lines of the replies were written
-pub record UnderWay (start : StateView) (unread left before after : Option (List ℕ)) (now : StateView) (reader : FrameReaderView) : Type 0
+pub record UnderWay (meaning : Meanings) (start : StateView) (unread left before after : Option (List ℕ)) (now : StateView)
+    (reader : FrameReaderView) : Type 0
   where
     pub input : List ℕ
     pub frames : List SignedStatement
@@ -77,36 +79,40 @@ pub record UnderWay (start : StateView) (unread left before after : Option (List
     pub version : reader.version ≡ start.config.frames
     pub reading : reader.state ≡ Reading kept
     pub given : SplitsTo start.config.frames input frames kept
-    pub answers : AnswersEvents start (deliveries frames) text now
+    pub answers : AnswersEvents meaning start (deliveries frames) text now
     pub written : Appends before after text
 
 -- the same, and the stream has this end after the frames
-pub record StreamHasEnded (start : StateView) (unread left before after : Option (List ℕ)) (now : StateView) (end : StreamEnd) : Type 0 where
+pub record StreamHasEnded (meaning : Meanings) (start : StateView) (unread left before after : Option (List ℕ)) (now : StateView)
+    (end : StreamEnd) : Type 0 where
   pub input : List ℕ
   pub frames : List SignedStatement
   pub text : List ℕ
   pub read : Consumes unread left input
   pub found : IsReadTo end left
   pub stands : SplitsWithEnd start.config.frames input frames end
-  pub answers : AnswersEvents start (deliveries frames) text now
+  pub answers : AnswersEvents meaning start (deliveries frames) text now
   pub written : Appends before after text
 
 -- the same, as far as it came before something failed
-pub record StreamHasStopped (start : StateView) (unread left before after : Option (List ℕ)) (now : StateView) : Type 0 where
+pub record StreamHasStopped (meaning : Meanings) (start : StateView) (unread left before after : Option (List ℕ))
+    (now : StateView) : Type 0 where
   pub input : List ℕ
   pub frames : List SignedStatement
   pub rest : List ℕ
   pub text : List ℕ
   pub read : Consumes unread left input
   pub stands : Frames start.config.frames input frames rest
-  pub answers : AnswersSome start (deliveries frames) text now
+  pub answers : AnswersSome meaning start (deliveries frames) text now
   pub written : AppendsSome before after text
 
 -- the stream continues, or a fault was found
-abbrev pub ContinuesStream : StateView → Option (List ℕ) → Option (List ℕ) → Option (List ℕ) → Option (List ℕ) → StateView → FrameReaderView
+abbrev pub ContinuesStream : Meanings → StateView → Option (List ℕ) → Option (List ℕ) → Option (List ℕ) → Option (List ℕ) → StateView
+    → FrameReaderView
     → Option StreamFault → Type 0
-ContinuesStream start unread left before after now reader None = UnderWay start unread left before after now reader
-ContinuesStream start unread left before after now reader (Some fault) = StreamHasEnded start unread left before after now (Fault fault)
+ContinuesStream meaning start unread left before after now reader None = UnderWay meaning start unread left before after now reader
+ContinuesStream meaning start unread left before after now reader (Some fault) = StreamHasEnded meaning start unread left before after now
+    (Fault fault)
 
 -- The replica of the settings is mute after these entries only if its key pair had too few leaves for the statements of
 -- its own that it had sent and those that were due.
@@ -115,45 +121,49 @@ IsMuteOnlySpent s entries = IsMuteForWant s.cluster.config s.replica (leaves_of 
 
 -- What `abft deliver` prints for these bytes. The replica of the settings, with the keys of its cluster, took these
 -- events, and its lawful replies have these lines; the last line reports what is wrong with the stream.
-pub record Delivers (s : DeliverSettings) (input : List ℕ) (end : StreamEnd) (text : List ℕ) : Type 0 where
+pub record Delivers (meaning : Meanings) (s : DeliverSettings) (input : List ℕ) (end : StreamEnd) (text : List ℕ) : Type 0 where
   pub frames : List SignedStatement
   pub stands : SplitsWithEnd s.cluster.config.frames input frames end
   pub entries : List Entry
   pub events : map (λ e. e.event) entries ≡ starting s ++ deliveries frames
-  pub replay : Replay s.cluster.config (ring_of s.cluster) s.replica entries
+  pub replay : Replay meaning s.cluster.config (ring_of s.cluster) s.replica entries
   pub mute : IsMuteOnlySpent s entries
   pub lines : lines_of entries ++ last_line end ≡ text
 
 -- the same, as far as it came: the replica took the first of these events, for the first frames of the bytes
-pub record DeliversSome (s : DeliverSettings) (input : List ℕ) (text : List ℕ) : Type 0 where
+pub record DeliversSome (meaning : Meanings) (s : DeliverSettings) (input : List ℕ) (text : List ℕ) : Type 0 where
   pub frames : List SignedStatement
   pub rest : List ℕ
   pub stands : Frames s.cluster.config.frames input frames rest
   pub entries : List Entry
   pub later : List Event
   pub events : map (λ e. e.event) entries ++ later ≡ starting s ++ deliveries frames
-  pub replay : Replay s.cluster.config (ring_of s.cluster) s.replica entries
+  pub replay : Replay meaning s.cluster.config (ring_of s.cluster) s.replica entries
   pub mute : IsMuteOnlySpent s entries
   pub lines : lines_of entries ≡ text
 
 -- the stream was read as far as its end needs, and what is printed for it was written
-abbrev pub DeliversStream : DeliverSettings → StreamEnd → Option (List ℕ) → Option (List ℕ) → Option (List ℕ) → Option (List ℕ) → Type 0
-DeliversStream s end unread left before after =
-    IsReadTo end left × Responds (λ input text. Delivers s input end text) unread left before after
+abbrev pub DeliversStream : Meanings → DeliverSettings → StreamEnd → Option (List ℕ) → Option (List ℕ) → Option (List ℕ) → Option (List ℕ)
+    → Type 0
+DeliversStream meaning s end unread left before after =
+    IsReadTo end left × Responds (λ input text. Delivers meaning s input end text) unread left before after
 
 -- part of the stream was read, and a prefix of what is printed for it was written
-abbrev pub DeliversStreamSome : DeliverSettings → Option (List ℕ) → Option (List ℕ) → Option (List ℕ) → Option (List ℕ) → Type 0
-DeliversStreamSome s unread left before after =
-    RespondsSome (λ input text. DeliversSome s input text ⊎ ((end : StreamEnd) × Delivers s input end text)) unread left before after
+abbrev pub DeliversStreamSome : Meanings → DeliverSettings → Option (List ℕ) → Option (List ℕ) → Option (List ℕ) → Option (List ℕ) → Type 0
+DeliversStreamSome meaning s unread left before after =
+    RespondsSome (λ input text. DeliversSome meaning s input text ⊎ ((end : StreamEnd) × Delivers meaning s input end text)) unread left
+    before after
 
 -- the same, and the replica's history was full
-abbrev pub FillsHistory : DeliverSettings → Option (List ℕ) → Option (List ℕ) → Option (List ℕ) → Option (List ℕ) → Type 0
-FillsHistory s unread left before after =
-    RespondsSome (λ input text. (some : DeliversSome s input text) × (max_history_len ≤ length some.entries)) unread left before after
+abbrev pub FillsHistory : Meanings → DeliverSettings → Option (List ℕ) → Option (List ℕ) → Option (List ℕ) → Option (List ℕ) → Type 0
+FillsHistory meaning s unread left before after =
+    RespondsSome (λ input text. (some : DeliversSome meaning s input text) × (max_history_len ≤ length some.entries)) unread left before
+    after
 
 -- why `abft deliver` stopped: memory ran out, a stream failed, or the history was full
-abbrev pub StopsDelivery : DeliverSettings → Option (List ℕ) → Option (List ℕ) → Option (List ℕ) → Option (List ℕ) → ProgramFault → Type 0
-StopsDelivery s unread left before after fault.NoMemory = ⊤
-StopsDelivery s unread left before after (fault.Refused resource error) = IsTrue (is_asked resource)
-StopsDelivery s unread left before after fault.HistoryFull = FillsHistory s unread left before after
-StopsDelivery s unread left before after _ = ⊥
+abbrev pub StopsDelivery : Meanings → DeliverSettings → Option (List ℕ) → Option (List ℕ) → Option (List ℕ) → Option (List ℕ) → ProgramFault
+    → Type 0
+StopsDelivery meaning s unread left before after fault.NoMemory = ⊤
+StopsDelivery meaning s unread left before after (fault.Refused resource error) = IsTrue (is_asked resource)
+StopsDelivery meaning s unread left before after fault.HistoryFull = FillsHistory meaning s unread left before after
+StopsDelivery meaning s unread left before after _ = ⊥

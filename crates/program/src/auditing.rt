@@ -77,7 +77,7 @@ fn found<A: Opening, S: RandomSource>(
     cluster: &ClusterSeed,
     histories: &[History],
 ) -> Result<Result<Ledger, AuditFault>, ProgramFault>
-    ensures finds { IfOk result (λ finding. IsFinding cluster.now.config (ring_of cluster.now) histories.now finding) }
+    ensures finds { IfOk result (λ finding. IsFinding A.meaning cluster.now.config (ring_of cluster.now) histories.now finding) }
     ensures fault { IfErr result IsMemoryOrRandom }
 {
     if !are_of_a_quorum(&cluster.config, histories) {
@@ -96,8 +96,8 @@ fn audit_histories<A: Opening, S: RandomSource, W: Write>(
     writer: &mut W,
 ) -> Result<Conclusion, ProgramFault>
     ensures audits { MatchResult result
-        (λ ending. OutputsDone (Audited settings.now) histories.now ending.status (W.contents writer.old) (W.contents writer.new))
-        (λ _. OutputsDoneSome (Audited settings.now) histories.now (W.contents writer.old) (W.contents writer.new)) }
+        (λ ending. OutputsDone (Audited A.meaning settings.now) histories.now ending.status (W.contents writer.old) (W.contents writer.new))
+        (λ _. OutputsDoneSome (Audited A.meaning settings.now) histories.now (W.contents writer.old) (W.contents writer.new)) }
     ensures explains { IfOk result (λ ending. (ending.explanation ≡ None) ⊎ (ending.status ≡ 1)) }
     ensures fault { IfErr result IsMemoryOrAsked }
 {
@@ -125,8 +125,10 @@ pub fn audit<A: Opening, S: RandomSource, R: Read, W: Write>(
     writer: &mut W,
 ) -> Result<Conclusion, ProgramFault>
     ensures audits { MatchResult result
-        (λ ending. Audits settings.now ending.status (R.remaining reader.old) (R.remaining reader.new) (W.contents writer.old) (W.contents writer.new))
-        (λ _. AuditsSome settings.now (R.remaining reader.old) (R.remaining reader.new) (W.contents writer.old) (W.contents writer.new)) }
+        (λ ending. Audits A.meaning settings.now ending.status (R.remaining reader.old) (R.remaining reader.new) (W.contents writer.old)
+        (W.contents writer.new))
+        (λ _. AuditsSome A.meaning settings.now (R.remaining reader.old) (R.remaining reader.new) (W.contents writer.old)
+        (W.contents writer.new)) }
     // Nothing is explained at status 0.
     ensures explains { IfOk result (λ ending. (ending.explanation ≡ None) ⊎ (ending.status ≡ 1)) }
     ensures fault { IfErr result IsMemoryOrAsked }

@@ -26,11 +26,14 @@ fn deliver_to<A: Application, R: Read, W: Write>(
     reader: &mut R,
     writer: &mut W,
 ) -> Result<StreamEnd, ProgramFault>
-    requires { state.old ≡ fresh settings.now }
+    requires { state.old ≡ fresh A.meaning settings.now }
     ensures delivers { MatchResult result
-        (λ end. DeliversStream settings.now end (R.remaining reader.old) (R.remaining reader.new) (W.contents writer.old) (W.contents writer.new))
-        (λ _. DeliversStreamSome settings.now (R.remaining reader.old) (R.remaining reader.new) (W.contents writer.old) (W.contents writer.new)) }
-    ensures cause { IfErr result (StopsDelivery settings.now (R.remaining reader.old) (R.remaining reader.new) (W.contents writer.old) (W.contents writer.new)) }
+        (λ end. DeliversStream A.meaning settings.now end (R.remaining reader.old) (R.remaining reader.new) (W.contents writer.old)
+        (W.contents writer.new))
+        (λ _. DeliversStreamSome A.meaning settings.now (R.remaining reader.old) (R.remaining reader.new) (W.contents writer.old)
+        (W.contents writer.new)) }
+    ensures cause { IfErr result (StopsDelivery A.meaning settings.now (R.remaining reader.old) (R.remaining reader.new)
+        (W.contents writer.old) (W.contents writer.new)) }
 {
     start(alloc, settings, state)?;
     let mut frames = FrameReader::new_in(settings.cluster.config.frames, alloc);
@@ -49,9 +52,12 @@ pub fn deliver<A: Opening, S: RandomSource, R: Read, W: Write>(
     writer: &mut W,
 ) -> Result<StreamEnd, ProgramFault>
     ensures delivers { MatchResult result
-        (λ end. DeliversStream settings.now end (R.remaining reader.old) (R.remaining reader.new) (W.contents writer.old) (W.contents writer.new))
-        (λ _. DeliversStreamSome settings.now (R.remaining reader.old) (R.remaining reader.new) (W.contents writer.old) (W.contents writer.new)) }
-    ensures cause { IfErr result (StopsDelivery settings.now (R.remaining reader.old) (R.remaining reader.new) (W.contents writer.old) (W.contents writer.new)) }
+        (λ end. DeliversStream A.meaning settings.now end (R.remaining reader.old) (R.remaining reader.new) (W.contents writer.old)
+        (W.contents writer.new))
+        (λ _. DeliversStreamSome A.meaning settings.now (R.remaining reader.old) (R.remaining reader.new) (W.contents writer.old)
+        (W.contents writer.new)) }
+    ensures cause { IfErr result (StopsDelivery A.meaning settings.now (R.remaining reader.old) (R.remaining reader.new)
+        (W.contents writer.old) (W.contents writer.new)) }
 {
     let mut state = new_replica::<A, S>(source, alloc, settings)?;
     deliver_to(alloc, settings, &mut state, reader, writer)

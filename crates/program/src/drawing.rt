@@ -43,7 +43,8 @@ fn drawn<A: Opening, S: RandomSource>(
     settings: &DrawSettings,
     histories: &[History],
 ) -> Result<Picture, ProgramFault>
-    ensures shows { IfOk result (IsPictureOf settings.now.cluster.config (ring_of settings.now.cluster) histories.now (part_of settings.now)) }
+    ensures shows { IfOk result (IsPictureOf A.meaning settings.now.cluster.config (ring_of settings.now.cluster) histories.now
+        (part_of settings.now)) }
     ensures fault { IfErr result IsMemoryOrRandom }
 {
     let config = &settings.cluster.config;
@@ -95,8 +96,8 @@ fn draw_histories<A: Opening, S: RandomSource, W: Write>(
     writer: &mut W,
 ) -> Result<Conclusion, ProgramFault>
     ensures draws { MatchResult result
-        (λ ending. OutputsDone (Drawn settings.now) histories.now ending.status (W.contents writer.old) (W.contents writer.new))
-        (λ _. OutputsDoneSome (Drawn settings.now) histories.now (W.contents writer.old) (W.contents writer.new)) }
+        (λ ending. OutputsDone (Drawn A.meaning settings.now) histories.now ending.status (W.contents writer.old) (W.contents writer.new))
+        (λ _. OutputsDoneSome (Drawn A.meaning settings.now) histories.now (W.contents writer.old) (W.contents writer.new)) }
     ensures explains { IfOk result (λ ending. (ending.explanation ≡ None) ⊎ (ending.status ≡ 1)) }
     ensures fault { IfErr result IsMemoryOrAsked }
 {
@@ -122,8 +123,10 @@ pub fn draw<A: Opening, S: RandomSource, R: Read, W: Write>(
     writer: &mut W,
 ) -> Result<Conclusion, ProgramFault>
     ensures draws { MatchResult result
-        (λ ending. Draws settings.now ending.status (R.remaining reader.old) (R.remaining reader.new) (W.contents writer.old) (W.contents writer.new))
-        (λ _. DrawsSome settings.now (R.remaining reader.old) (R.remaining reader.new) (W.contents writer.old) (W.contents writer.new)) }
+        (λ ending. Draws A.meaning settings.now ending.status (R.remaining reader.old) (R.remaining reader.new) (W.contents writer.old)
+        (W.contents writer.new))
+        (λ _. DrawsSome A.meaning settings.now (R.remaining reader.old) (R.remaining reader.new) (W.contents writer.old)
+        (W.contents writer.new)) }
     // Nothing is explained at status 0.
     ensures explains { IfOk result (λ ending. (ending.explanation ≡ None) ⊎ (ending.status ≡ 1)) }
     ensures fault { IfErr result IsMemoryOrAsked }

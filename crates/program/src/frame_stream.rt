@@ -30,7 +30,7 @@ fn deliver_frame<A: Application, W: Write>(
     frame: Frame,
     writer: &mut W,
 ) -> Result<(), ProgramFault>
-    ensures prints { Prints result state.old (deliveries (frame ∷ [])) state.new (W.contents writer.old) (W.contents writer.new) }
+    ensures prints { Prints A.meaning result state.old (deliveries (frame ∷ [])) state.new (W.contents writer.old) (W.contents writer.new) }
     ensures cause { IfErr result (FailsAfter state.new.entries) }
 {
     let line = answer(state, frame.into_bytes())?;
@@ -44,7 +44,7 @@ fn deliver_all<A: Application, W: Write>(
     frames: Vec<Frame>,
     writer: &mut W,
 ) -> Result<(), ProgramFault>
-    ensures prints { Prints result state.old (deliveries frames.items) state.new (W.contents writer.old) (W.contents writer.new) }
+    ensures prints { Prints A.meaning result state.old (deliveries frames.items) state.new (W.contents writer.old) (W.contents writer.new) }
     ensures cause { IfErr result (FailsAfter state.new.entries) }
 {
     for frame in frames {
@@ -92,10 +92,10 @@ fn deliver_piece<A: Application, W: Write>(
     requires { IsReading frames.old }
     ensures version { frames.new.version ≡ frames.old.version }
     ensures goes { (start : StateView) (unread now left before : Option (List ℕ))
-        → UnderWay start unread now before (W.contents writer.old) state.old frames.old → Consumes now left piece.now
+        → UnderWay A.meaning start unread now before (W.contents writer.old) state.old frames.old → Consumes now left piece.now
         → MatchResult result
-        (λ found. ContinuesStream start unread left before (W.contents writer.new) state.new frames.new found)
-        (λ _. StreamHasStopped start unread left before (W.contents writer.new) state.new) }
+        (λ found. ContinuesStream A.meaning start unread left before (W.contents writer.new) state.new frames.new found)
+        (λ _. StreamHasStopped A.meaning start unread left before (W.contents writer.new) state.new) }
     ensures cause { IfErr result (FailsAfter state.new.entries) }
 {
     match frames.feed(piece) {
@@ -132,8 +132,10 @@ pub(crate) fn deliver_pieces<A: Application, R: Read, W: Write>(
     requires start { frames.old.state ≡ Reading [] }
     requires version { frames.old.version ≡ state.old.config.frames }
     ensures ends { MatchResult result
-        (λ end. StreamHasEnded state.old (R.remaining reader.old) (R.remaining reader.new) (W.contents writer.old) (W.contents writer.new) state.new end)
-        (λ _. StreamHasStopped state.old (R.remaining reader.old) (R.remaining reader.new) (W.contents writer.old) (W.contents writer.new) state.new) }
+        (λ end. StreamHasEnded A.meaning state.old (R.remaining reader.old) (R.remaining reader.new) (W.contents writer.old)
+        (W.contents writer.new) state.new end)
+        (λ _. StreamHasStopped A.meaning state.old (R.remaining reader.old) (R.remaining reader.new) (W.contents writer.old)
+        (W.contents writer.new) state.new) }
     ensures cause { IfErr result (FailsAfter state.new.entries) }
 {
     let mut piece = [0; PIECE_LEN];

@@ -40,7 +40,8 @@ pub(crate) fn new_simulation<A: Opening, S: RandomSource>(
     scenario: &Scenario,
 ) -> Result<Simulation<A>, ProgramFault>
     requires { IsPlan (plan_of scenario.now) }
-    ensures opening { IfOk result (λ simulation. simulation ≡ simulation_at_start settings.now.seed scenario.now.setup.config (plan_of scenario.now)) }
+    ensures opening { IfOk result (λ simulation. simulation ≡ simulation_at_start A.meaning settings.now.seed scenario.now.setup.config
+        (plan_of scenario.now)) }
     ensures fault { IfErr result IsMemoryOrAsked }
 {
     let setup = &scenario.setup;

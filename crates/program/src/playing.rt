@@ -30,8 +30,9 @@ fn play_command<A: Application, W: Write>(
     writer: &mut W,
 ) -> Result<(), ProgramFault>
     ensures plays { MatchResult result
-        (λ _. PlaysWritten has_lines simulation.old (command.now ∷ []) simulation.new (W.contents writer.old) (W.contents writer.new))
-        (λ _. PlaysWrittenSome has_lines simulation.old (command.now ∷ []) (W.contents writer.old) (W.contents writer.new)) }
+        (λ _. PlaysWritten A.meaning has_lines simulation.old (command.now ∷ []) simulation.new (W.contents writer.old)
+        (W.contents writer.new))
+        (λ _. PlaysWrittenSome A.meaning has_lines simulation.old (command.now ∷ []) (W.contents writer.old) (W.contents writer.new)) }
     ensures fault { IfErr result IsMemoryOrAsked }
 {
     let lines = simulation.play(command)?;
@@ -49,8 +50,8 @@ fn play_all<A: Application, W: Write>(
     writer: &mut W,
 ) -> Result<(), ProgramFault>
     ensures plays { MatchResult result
-        (λ _. PlaysWritten has_lines simulation.old commands.now simulation.new (W.contents writer.old) (W.contents writer.new))
-        (λ _. PlaysWrittenSome has_lines simulation.old commands.now (W.contents writer.old) (W.contents writer.new)) }
+        (λ _. PlaysWritten A.meaning has_lines simulation.old commands.now simulation.new (W.contents writer.old) (W.contents writer.new))
+        (λ _. PlaysWrittenSome A.meaning has_lines simulation.old commands.now (W.contents writer.old) (W.contents writer.new)) }
     ensures fault { IfErr result IsMemoryOrAsked }
 {
     for command in commands {
@@ -101,7 +102,7 @@ pub(crate) fn play<A: Opening, S: RandomSource, W: Write>(
     writer: &mut W,
 ) -> Result<(), ProgramFault>
     requires { IsPlan (plan_of scenario.now) }
-    ensures plays { PlansWritten result settings.now (plan_of scenario.now) (W.contents writer.old) (W.contents writer.new) }
+    ensures plays { PlansWritten A.meaning result settings.now (plan_of scenario.now) (W.contents writer.old) (W.contents writer.new) }
     ensures fault { IfErr result IsMemoryOrAsked }
 {
     let mut simulation = new_simulation::<A, S>(source, alloc, settings, scenario)?;

@@ -33,7 +33,7 @@ pub(crate) fn new_replica<A: Opening, S: RandomSource>(
     alloc: Global,
     settings: &DeliverSettings,
 ) -> Result<State<A>, ProgramFault>
-    ensures fresh { IfOk result (λ state. state ≡ fresh settings.now) }
+    ensures fresh { IfOk result (λ state. state ≡ fresh A.meaning settings.now) }
     ensures fault { IfErr result IsMemoryOrAsked }
 {
     let randoms = new_keys(source)?;
@@ -72,7 +72,7 @@ fn taken(outcome: Result<usize, ApplyFault>) -> Result<(), ProgramFault>
 /// Submits bytes to the replica.
 fn submit<A: Application>(state: &mut State<A>, bytes: Bytes) -> Result<(), ProgramFault>
     ensures answers { MatchResult result
-        (λ _. AnswersEvents state.old (event.Submit bytes ∷ []) [] state.new)
+        (λ _. AnswersEvents A.meaning state.old (event.Submit bytes ∷ []) [] state.new)
         (λ _. TakesNoEvent state.old state.new) }
     ensures cause { IfErr result (FailsAfter state.new.entries) }
 {
@@ -83,7 +83,7 @@ fn submit<A: Application>(state: &mut State<A>, bytes: Bytes) -> Result<(), Prog
 /// Lets the replica propose a height.
 fn propose<A: Application>(state: &mut State<A>, height: Height) -> Result<(), ProgramFault>
     ensures answers { MatchResult result
-        (λ _. AnswersEvents state.old (event.Propose height ∷ []) [] state.new)
+        (λ _. AnswersEvents A.meaning state.old (event.Propose height ∷ []) [] state.new)
         (λ _. TakesNoEvent state.old state.new) }
     ensures cause { IfErr result (FailsAfter state.new.entries) }
 {
@@ -94,7 +94,7 @@ fn propose<A: Application>(state: &mut State<A>, height: Height) -> Result<(), P
 /// Ends a round.
 fn end_round<A: Application>(state: &mut State<A>) -> Result<(), ProgramFault>
     ensures answers { MatchResult result
-        (λ _. AnswersEvents state.old (event.RoundEnd ∷ []) [] state.new)
+        (λ _. AnswersEvents A.meaning state.old (event.RoundEnd ∷ []) [] state.new)
         (λ _. TakesNoEvent state.old state.new) }
     ensures cause { IfErr result (FailsAfter state.new.entries) }
 {
@@ -105,8 +105,8 @@ fn end_round<A: Application>(state: &mut State<A>) -> Result<(), ProgramFault>
 /// Ends `rounds` rounds.
 fn end_rounds<A: Application>(state: &mut State<A>, rounds: u32) -> Result<(), ProgramFault>
     ensures answers { MatchResult result
-        (λ _. AnswersEvents state.old (replicate rounds event.RoundEnd) [] state.new)
-        (λ _. AnswersSome state.old (replicate rounds event.RoundEnd) [] state.new) }
+        (λ _. AnswersEvents A.meaning state.old (replicate rounds event.RoundEnd) [] state.new)
+        (λ _. AnswersSome A.meaning state.old (replicate rounds event.RoundEnd) [] state.new) }
     ensures cause { IfErr result (FailsAfter state.new.entries) }
 {
     for _ in 0..rounds {
@@ -122,8 +122,8 @@ pub(crate) fn start<A: Application>(
     state: &mut State<A>,
 ) -> Result<(), ProgramFault>
     ensures answers { MatchResult result
-        (λ _. AnswersEvents state.old (starting settings.now) [] state.new)
-        (λ _. AnswersSome state.old (starting settings.now) [] state.new) }
+        (λ _. AnswersEvents A.meaning state.old (starting settings.now) [] state.new)
+        (λ _. AnswersSome A.meaning state.old (starting settings.now) [] state.new) }
     ensures cause { IfErr result (FailsAfter state.new.entries) }
 {
     let Ok(value) = Bytes::copy_from_slice(alloc, settings.value.as_bytes()) else {
@@ -140,7 +140,7 @@ pub(crate) fn answer<A: Application>(
     bytes: Bytes,
 ) -> Result<Line, ProgramFault>
     ensures answers { MatchResult result
-        (λ line. AnswersEvents state.old (event.Deliver bytes ∷ []) (line_bytes line) state.new)
+        (λ line. AnswersEvents A.meaning state.old (event.Deliver bytes ∷ []) (line_bytes line) state.new)
         (λ _. TakesNoEvent state.old state.new) }
     ensures cause { IfErr result (FailsAfter state.new.entries) }
 {

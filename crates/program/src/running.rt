@@ -45,26 +45,28 @@ pub fn run<A: Opening, S: RandomSource, R: Read, W: Write, F: Write>(
 ) -> Outcome
     // What the words ask for was done, or they ask only for the help or the version.
     ensures finishes { IfEnded result (λ status. (status ≡ 0) ⊎ (status ≡ 1)
-        → Performs (map (λ w. w.now) words.entry.now) status (R.remaining reader.old) (R.remaining reader.new) (W.contents writer.old) (W.contents writer.new)
-        ⊎ (IsRefused (map (λ w. w.now) words.entry.now) × AskForHelp (map (λ w. w.now) words.entry.now)
+        → Performs A.meaning (map (λ w. w.now) words.entry.now) status (R.remaining reader.old) (R.remaining reader.new)
+        (W.contents writer.old) (W.contents writer.new)
+        ⊎ (IsRefused A.meaning (map (λ w. w.now) words.entry.now) × AskForHelp (map (λ w. w.now) words.entry.now)
         × (status ≡ 0) × Keeps (R.remaining reader.old) (R.remaining reader.new))) }
     ensures quiet { IfEnded result (λ status. status ≡ 0 → Keeps (F.contents faults.old) (F.contents faults.new)) }
     // Only an audit and a picture explain what is wrong with histories.
     ensures explains { IfEnded result (λ status. status ≡ 1
-        → Keeps (F.contents faults.old) (F.contents faults.new) ⊎ AsksForHistories (map (λ w. w.now) words.entry.now)) }
+        → Keeps (F.contents faults.old) (F.contents faults.new) ⊎ AsksForHistories A.meaning (map (λ w. w.now) words.entry.now)) }
     // The words are no command line, or set nothing, and don't ask for the help or the version.
-    ensures refuses { IfEnded result (λ status. status ≡ 2 → IsRefused (map (λ w. w.now) words.entry.now)
+    ensures refuses { IfEnded result (λ status. status ≡ 2 → IsRefused A.meaning (map (λ w. w.now) words.entry.now)
         × (AskForHelpAlone (map (λ w. w.now) words.entry.now) → ⊥)
         × Keeps (R.remaining reader.old) (R.remaining reader.new) × Keeps (W.contents writer.old) (W.contents writer.new)) }
     // What the words ask for was begun, or nothing was, or the help or the version could not be written.
     ensures stops { IfEnded result (λ status. status ≡ 3
-        → StartsRun (map (λ w. w.now) words.entry.now) (R.remaining reader.old) (R.remaining reader.new) (W.contents writer.old) (W.contents writer.new)
+        → StartsRun A.meaning (map (λ w. w.now) words.entry.now) (R.remaining reader.old) (R.remaining reader.new) (W.contents writer.old)
+        (W.contents writer.new)
         ⊎ (Keeps (R.remaining reader.old) (R.remaining reader.new)
         × (Keeps (W.contents writer.old) (W.contents writer.new)
-        ⊎ (IsRefused (map (λ w. w.now) words.entry.now) × AskForHelp (map (λ w. w.now) words.entry.now))))) }
+        ⊎ (IsRefused A.meaning (map (λ w. w.now) words.entry.now) × AskForHelp (map (λ w. w.now) words.entry.now))))) }
     ensures known { IfEnded result (λ status. status ≤ 3) }
     // The settings are those of the words, which have no fault, and no stream was touched.
-    ensures hands_back { IfHanded result (λ settings. IsSet (map (λ w. w.now) words.entry.now) settings
+    ensures hands_back { IfHanded result (λ settings. IsSet A.meaning (map (λ w. w.now) words.entry.now) settings
         × Keeps (R.remaining reader.old) (R.remaining reader.new) × Keeps (W.contents writer.old) (W.contents writer.new)
         × Keeps (F.contents faults.old) (F.contents faults.new)
         × (kinds_of (map (λ w. w.now) words.entry.now) ≡ [])) }
@@ -87,8 +89,9 @@ fn run_settings<A: Opening, S: RandomSource, R: Read, W: Write, F: Write>(
     faults: &mut F,
 ) -> Outcome
     ensures ended { IfEnded result (λ status. (IsQuiet settings status (F.contents faults.old) (F.contents faults.new)
-        × Done settings status (R.remaining reader.old) (R.remaining reader.new) (W.contents writer.old) (W.contents writer.new))
-        ⊎ ((status ≡ 3) × Halted settings (R.remaining reader.old) (R.remaining reader.new) (W.contents writer.old) (W.contents writer.new))) }
+        × Done A.meaning settings status (R.remaining reader.old) (R.remaining reader.new) (W.contents writer.old) (W.contents writer.new))
+        ⊎ ((status ≡ 3) × Halted A.meaning settings (R.remaining reader.old) (R.remaining reader.new) (W.contents writer.old)
+        (W.contents writer.new))) }
     ensures handed { IfHanded result (λ handed. (handed ≡ settings)
         × Keeps (R.remaining reader.old) (R.remaining reader.new) × Keeps (W.contents writer.old) (W.contents writer.new)
         × Keeps (F.contents faults.old) (F.contents faults.new)) }
@@ -150,8 +153,10 @@ fn perform<A: Opening, S: RandomSource, R: Read, W: Write>(
     writer: &mut W,
 ) -> Result<Conclusion, ProgramFault>
     ensures done { MatchResult result
-        (λ ending. Done (settings_of settings.now) ending.status (R.remaining reader.old) (R.remaining reader.new) (W.contents writer.old) (W.contents writer.new))
-        (λ _. Halted (settings_of settings.now) (R.remaining reader.old) (R.remaining reader.new) (W.contents writer.old) (W.contents writer.new)) }
+        (λ ending. Done A.meaning (settings_of settings.now) ending.status (R.remaining reader.old) (R.remaining reader.new)
+        (W.contents writer.old) (W.contents writer.new))
+        (λ _. Halted A.meaning (settings_of settings.now) (R.remaining reader.old) (R.remaining reader.new) (W.contents writer.old)
+        (W.contents writer.new)) }
     ensures explains { IfOk result (ExplainsHistories (settings_of settings.now)) }
 {
     match settings {
@@ -181,8 +186,10 @@ fn perform_whole<A: Opening, S: RandomSource, R: Read, W: Write>(
     writer: &mut W,
 ) -> Result<Conclusion, ProgramFault>
     ensures done { MatchResult result
-        (λ ending. Done (settings_of settings.now) ending.status (R.remaining reader.old) (R.remaining reader.new) (W.contents writer.old) (W.contents writer.new))
-        (λ _. Halted (settings_of settings.now) (R.remaining reader.old) (R.remaining reader.new) (W.contents writer.old) (W.contents writer.new)) }
+        (λ ending. Done A.meaning (settings_of settings.now) ending.status (R.remaining reader.old) (R.remaining reader.new)
+        (W.contents writer.old) (W.contents writer.new))
+        (λ _. Halted A.meaning (settings_of settings.now) (R.remaining reader.old) (R.remaining reader.new) (W.contents writer.old)
+        (W.contents writer.new)) }
     ensures explains { IfOk result (ExplainsHistories (settings_of settings.now)) }
 {
     let ending = perform::<A, S, R, W>(source, alloc, settings, reader, writer)?;

@@ -34,8 +34,10 @@ pub fn simulate<A: Opening, S: RandomSource, R: Read, W: Write>(
     writer: &mut W,
 ) -> Result<TextEnd, ProgramFault>
     ensures plays { MatchResult result
-        (λ end. PlaysText settings.now end (R.remaining reader.old) (R.remaining reader.new) (W.contents writer.old) (W.contents writer.new))
-        (λ _. PlaysTextSome settings.now (R.remaining reader.old) (R.remaining reader.new) (W.contents writer.old) (W.contents writer.new)) }
+        (λ end. PlaysText A.meaning settings.now end (R.remaining reader.old) (R.remaining reader.new) (W.contents writer.old)
+        (W.contents writer.new))
+        (λ _. PlaysTextSome A.meaning settings.now (R.remaining reader.old) (R.remaining reader.new) (W.contents writer.old)
+        (W.contents writer.new)) }
     ensures fault { IfErr result IsMemoryOrAsked }
 {
     match read_scenario(alloc, reader)? {

@@ -1,4 +1,5 @@
 -- A round end at which chosen statements are signed, and a mute round end: each is a step.
+use Rattle.ledger_model.specs.Meanings.{Meanings}
 use Rattle.std.proofs.Common.{◌≡◌, ℕ, ◌+◌, ◌<◌, Bool, true, false, List, [], ◌∷◌, refl, sym, ap, subst, ◌∙◌}
 use Rattle.std.specs.Prelude.{Some, IsTrue, slice_get}
 use Rattle.std.specs.List.{AllByRecursion}
@@ -29,12 +30,12 @@ use Rattle.replica_core.proofs.UsedLeaves.{mute_leaves, signed_leaves}
 use Rattle.ledger_model.proofs.Lists.{each_weaker}
 
 -- an end at which this may be made after each history that is matched is a step
-end_step : (held : ReplayView) (mute : Bool) (ms : List RoundStatement) → IsWithinLimits held → held.clock < last_round
+end_step : (meaning : Meanings) (held : ReplayView) (mute : Bool) (ms : List RoundStatement) → IsWithinLimits held → held.clock < last_round
     → (held.mute ≡ true → mute ≡ true)
-    → ((entries : List Entry) → MatchesHistory held entries → AreMade held.ring mute (held.clock + 1) held.rows ms)
-    → IsStep held event.RoundEnd (end_reply held mute ms) (after_end held mute ms)
-end_step held mute ms is_held early still are_made entries matches =
-    let end = (rounds_end held mute ms entries is_held early matches still (are_made entries matches)).0 in
+    → ((entries : List Entry) → MatchesHistory meaning held entries → AreMade held.ring mute (held.clock + 1) held.rows ms)
+    → IsStep meaning held event.RoundEnd (end_reply held mute ms) (after_end held mute ms)
+end_step meaning held mute ms is_held early still are_made entries matches =
+    let end = (rounds_end meaning held mute ms entries is_held early matches still (are_made entries matches)).0 in
     ((subst (λ n. n < last_round) (sym matches.clock) early, end.lawful), end.signed, end.matches)
 
 -- ---- a mute end
@@ -46,8 +47,9 @@ none_made ring c (row ∷ rows) = (record { silent = refl; may = tt; own = tt; s
 
 -- an end of a round at which the replica is mute is a step, and uses no leaf
 pub mute_ends : MuteEnds
-mute_ends held is_held early = (
-  end_step held true (all_mute held.rows) is_held early (λ was. refl) (λ entries matches. none_made held.ring (held.clock + 1) held.rows),
+mute_ends meaning held is_held early = (
+  end_step meaning held true (all_mute held.rows) is_held early (λ was. refl)
+      (λ entries matches. none_made held.ring (held.clock + 1) held.rows),
   mute_leaves held,
 )
 
@@ -91,9 +93,9 @@ module _ (ring : Ring) (id : ℕ) (key : List ℕ) (in_ring : slice_get ring id 
       )
 
 -- what is chosen at each open height may be sent, after each history that is matched
-choices : (held : ReplayView) (entries : List Entry) → IsWithinLimits held → MatchesHistory held entries
+choices : (meaning : Meanings) (held : ReplayView) (entries : List Entry) → IsWithinLimits held → MatchesHistory meaning held entries
     → AllByRecursion (λ row. (row.id ≡ held.id) × MaySend row (held.clock + 1) (chosen_statement row (held.clock + 1))) held.rows
-choices held entries is_held matches =
+choices meaning held entries is_held matches =
     each_found (λ row. (row.id ≡ held.id) × MaySend row (held.clock + 1) (chosen_statement row (held.clock + 1))) held.rows is_held.ascend
     (λ h row is. (
       (is_held.own h row is).id,
@@ -102,9 +104,9 @@ choices held entries is_held matches =
 
 -- an end at which what is chosen is signed is a step, and uses a leaf for each statement that is due
 pub signed_ends : SignedEnds
-signed_ends held keys ms is_held early loud in_ring signs verified = (
-  end_step held false ms is_held early (λ was. sym loud ∙ was)
+signed_ends meaning held keys ms is_held early loud in_ring signs verified = (
+  end_step meaning held false ms is_held early (λ was. sym loud ∙ was)
       (λ entries matches. chosen_made held.ring held.id (public_key_of keys.secret) in_ring keys.secret (held.clock + 1) keys.used held.rows ms
-      (choices held entries is_held matches) signs verified),
+      (choices meaning held entries is_held matches) signs verified),
   signed_leaves held keys ms signs (each_weaker (IsFrameUnder (public_key_of keys.secret)) IsFrameMade ms (λ m is. is.0) verified),
 )

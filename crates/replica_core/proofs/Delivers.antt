@@ -1,4 +1,5 @@
 -- Bytes arrive from the network.
+use Rattle.ledger_model.specs.Meanings.{Meanings}
 use Rattle.std.proofs.Common.{◌≡◌, ℕ, ◌<◌, ◌≤◌, true, false, cond, inl, inr, List, [], ◌∷◌, ◌++◌, refl, sym, ap, subst, ◌∙◌, arith}
 use Rattle.std.specs.Prelude.{nat_eq, Option, Some, None, is_some, Result, Ok, Err, IfOk, OnErr}
 use Rattle.std.proofs.lemmas.Bool.{cases_eq, eq-eqb, ne_eqb, lt-ltb, le-ltb, false≢true}
@@ -34,17 +35,18 @@ pub record Judged (held : ReplayView) (s : SignedStatement) (row : InstanceView)
   pub stays_open : is_some (row_at new (height_of s.statement)) ≡ true
   pub apart : AreApart (height_of s.statement) held.rows new
 
-module _ (held : ReplayView) (bytes : List ℕ) where
+module _ (meaning : Meanings) (held : ReplayView) (bytes : List ℕ) where
   -- what is ignored changes nothing
-  ignored : (f : Ignored) (entries : List Entry) → MatchesHistory held entries
-      → MatchesHistory held (entries ++ record { event = event.Deliver bytes; reply = reply.Delivered (Err f) } ∷ [])
+  ignored : (f : Ignored) (entries : List Entry) → MatchesHistory meaning held entries
+      → MatchesHistory meaning held (entries ++ record { event = event.Deliver bytes; reply = reply.Delivered (Err f) } ∷ [])
   unfolding notes_of
-  ignored f entries matches = unheard held entries (record { event = event.Deliver bytes; reply = reply.Delivered (Err f) }) matches refl
+  ignored f entries matches = unheard meaning held entries (record { event = event.Deliver bytes; reply = reply.Delivered (Err f) }) matches
+      refl
       refl refl (λ floor. refl) held.pool refl (λ h. refl)
 
   -- bytes that are no frame
   pub malformed : reading_in held.config.frames bytes ≡ None
-      → IsStep held (event.Deliver bytes) (reply.Delivered (Err cause.Malformed)) held
+      → IsStep meaning held (event.Deliver bytes) (reply.Delivered (Err cause.Malformed)) held
   malformed is entries matches = (
     ap (answer held.config held.ring held.id entries) (sym is),
     refl,
@@ -54,7 +56,7 @@ module _ (held : ReplayView) (bytes : List ℕ) where
   module _ (s : SignedStatement) (is : reading_in held.config.frames bytes ≡ Some s) where
     -- a frame whose signer is no replica
     pub stranger : held.config.replicas ≤ signer_of s.statement
-        → IsStep held (event.Deliver bytes) (reply.Delivered (Err cause.Signer)) held
+        → IsStep meaning held (event.Deliver bytes) (reply.Delivered (Err cause.Signer)) held
     unfolding causes
     stranger high entries matches = (
       sym (ap (answer held.config held.ring held.id entries) is ∙ simp (le-ltb (signer_of s.statement) held.config.replicas high) refl),
@@ -64,19 +66,19 @@ module _ (held : ReplayView) (bytes : List ℕ) where
 
     -- a frame of a height that is not open
     pub unopened : signer_of s.statement < held.config.replicas → row_at held.rows (height_of s.statement) ≡ None
-        → IsStep held (event.Deliver bytes) (reply.Delivered (Err cause.NoRow)) held
+        → IsStep meaning held (event.Deliver bytes) (reply.Delivered (Err cause.NoRow)) held
     unfolding causes
     unopened low none entries matches = (
       sym (ap (answer held.config held.ring held.id entries) is
           ∙ simp (
             lt-ltb (signer_of s.statement) held.config.replicas low,
-            closed_there held entries matches (height_of s.statement) none,
+            closed_there meaning held entries matches (height_of s.statement) none,
           ) refl),
       refl,
       ignored cause.NoRow entries matches,
     )
 
-    module _ (entries : List Entry) (matches : MatchesHistory held entries) where
+    module _ (entries : List Entry) (matches : MatchesHistory meaning held entries) where
       -- the entry of a frame that is read
       abbrev entry : Entry
       entry = record { event = event.Deliver bytes; reply = reply.Delivered (Ok tt) }
@@ -86,7 +88,7 @@ module _ (held : ReplayView) (bytes : List ℕ) where
           ≡ log_of held.config held.id (height_of s.statement) entries ++ Read held.clock s ∷ []
       unfolding notes_of
       log_here =
-          log_then held entries entry (height_of s.statement)
+          log_then meaning held entries entry (height_of s.statement)
           ∙ ap (λ o. log_of held.config held.id (height_of s.statement) entries
           ++ if_some o (λ x. cond (nat_eq (height_of x.statement) (height_of s.statement))
           (Read (clock_of (log_of held.config held.id (height_of s.statement) entries)) x ∷ []) [])) is
@@ -99,7 +101,7 @@ module _ (held : ReplayView) (bytes : List ℕ) where
       log_there : (g : ℕ) → (g ≡ height_of s.statement → ⊥)
           → log_of held.config held.id g (entries ++ entry ∷ []) ≡ log_of held.config held.id g entries
       unfolding notes_of
-      log_there g other = log_stays held entries entry g
+      log_there g other = log_stays meaning held entries entry g
           (ap (λ o. if_some o (λ x. cond (nat_eq (height_of x.statement) g) (Read (clock_of (log_of held.config held.id g entries)) x ∷ [])
           [])) is
           ∙ ap (λ b. cond b (Read (clock_of (log_of held.config held.id g entries)) s ∷ []) [])
@@ -107,9 +109,9 @@ module _ (held : ReplayView) (bytes : List ℕ) where
 
       -- what is kept then matches
       read_more : (row : InstanceView) (new : List InstanceView) → row_at held.rows (height_of s.statement) ≡ Some row
-          → Judged held s row new (Ok tt) → MatchesHistory (record held { rows = new }) (entries ++ entry ∷ [])
+          → Judged held s row new (Ok tt) → MatchesHistory meaning (record held { rows = new }) (entries ++ entry ∷ [])
       read_more row new at judged =
-          quiet held entries entry matches refl refl refl (λ floor. refl) new held.pool refl clocks opened unopened retired
+          quiet meaning held entries entry matches refl refl refl (λ floor. refl) new held.pool refl clocks opened unopened retired
         where
           clocks : (g : ℕ) → clock_of (log_of held.config held.id g (entries ++ entry ∷ [])) ≡ held.clock
           clocks g = elim (cases_eq g (height_of s.statement)) [
@@ -147,7 +149,7 @@ module _ (held : ReplayView) (bytes : List ℕ) where
     -- a frame of an open height
     pub judged : (row : InstanceView) (new : List InstanceView) (shown : Result (Unit {0}) Ignored)
         → row_at held.rows (height_of s.statement) ≡ Some row → Judged held s row new shown
-        → IsStep held (event.Deliver bytes) (reply.Delivered shown) (record held { rows = new })
+        → IsStep meaning held (event.Deliver bytes) (reply.Delivered shown) (record held { rows = new })
     judged row new (Ok u) at j entries matches = (
       j.answers (log_of held.config held.id (height_of s.statement) entries) (matches.opened (height_of s.statement) row at)
           (matches.clocks (height_of s.statement))
@@ -160,13 +162,13 @@ module _ (held : ReplayView) (bytes : List ℕ) where
           (matches.clocks (height_of s.statement))
           ∙ ap (answer held.config held.ring held.id entries) (sym is),
       refl,
-      subst (λ rows. MatchesHistory (record held { rows = rows })
+      subst (λ rows. MatchesHistory meaning (record held { rows = rows })
           (entries ++ record { event = event.Deliver bytes; reply = reply.Delivered (Err f) } ∷ [])) (sym j.leaves)
           (ignored f entries matches),
     )
 
 -- a frame of an open height, by what the open heights answered and are then
-pub judged_there : (held : ReplayView) (s : SignedStatement) (old new : HeightRowView)
+pub judged_there : (meaning : Meanings) (held : ReplayView) (s : SignedStatement) (old new : HeightRowView)
     (result : Result (Result (Unit {0}) Ignored) AllocError)
     → old.rows ≡ held.rows
     → is_some (row_at held.rows (height_of s.statement)) ≡ true
@@ -180,9 +182,9 @@ pub judged_there : (held : ReplayView) (s : SignedStatement) (old new : HeightRo
     → is_some (row_at new.rows (height_of s.statement)) ≡ true
     → AreApart (height_of s.statement) old.rows new.rows
     → IfOk result (λ r. (bytes : List ℕ) → reading_in held.config.frames bytes ≡ Some s
-    → IsStep held (event.Deliver bytes) (reply.Delivered r) (record held { rows = new.rows }))
-judged_there held s old new (Err e) same there config answers reads leaves stays apart = tt
-judged_there held s old new (Ok shown) same there config answers reads leaves stays apart =
+    → IsStep meaning held (event.Deliver bytes) (reply.Delivered r) (record held { rows = new.rows }))
+judged_there meaning held s old new (Err e) same there config answers reads leaves stays apart = tt
+judged_there meaning held s old new (Ok shown) same there config answers reads leaves stays apart =
     λ bytes is. by bytes is (row_at held.rows (height_of s.statement)) refl
   where
     kept : (r : Result (Unit {0}) Ignored) → OnErr r (new ≡ old) → OnErr r (new.rows ≡ held.rows)
@@ -191,9 +193,9 @@ judged_there held s old new (Ok shown) same there config answers reads leaves st
 
     by : (bytes : List ℕ) → reading_in held.config.frames bytes ≡ Some s → (o : Option InstanceView)
         → row_at held.rows (height_of s.statement) ≡ o
-        → IsStep held (event.Deliver bytes) (reply.Delivered shown) (record held { rows = new.rows })
+        → IsStep meaning held (event.Deliver bytes) (reply.Delivered shown) (record held { rows = new.rows })
     by bytes is None none = absurd (false≢true (sym (ap is_some none) ∙ there))
-    by bytes is (Some row) at = judged held bytes s is row new.rows shown at (record {
+    by bytes is (Some row) at = judged meaning held bytes s is row new.rows shown at (record {
       answers = λ log matches clock. answers row (ap (λ rows. row_at rows (height_of s.statement)) same ∙ at) log matches clock
           ∙ ap (λ c. answer_to c held.ring log s) (config row at);
       reads = λ next next_at log matches clock. reads row next (ap (λ rows. row_at rows (height_of s.statement)) same ∙ at) next_at log

@@ -1,4 +1,5 @@
 -- The statements that the core finds due are those that the history makes due.
+use Rattle.ledger_model.specs.Meanings.{Meanings}
 use Rattle.std.proofs.Common.{◌≡◌, ℕ, zero, suc, ◌+◌, ◌<◌, ◌≤◌, Bool, true, false, not, ◌&&◌, inl, inr, List, [], ◌∷◌, ◌++◌, refl, sym, ap}
 use Rattle.std.proofs.Common.{subst, ◌∙◌, arith, eq-eqb}
 use Rattle.std.specs.Prelude.{nat_eq, ◌==◌, Option, Some, None, is_some, if◌then◌else◌}
@@ -179,9 +180,9 @@ count_open round test (suc n) a (row ∷ rows) ascend within fits = elim (cases_
     other h a apart e = let is = eq-eqb h a e in cc
 
 -- each open height is one of those that can be opened
-rows_within : (held : ReplayView) (entries : List Entry) → IsWithinLimits held → MatchesHistory held entries
+rows_within : (meaning : Meanings) (held : ReplayView) (entries : List Entry) → IsWithinLimits held → MatchesHistory meaning held entries
     → AreWithin 1 max_height held.rows
-rows_within held entries is_held matches =
+rows_within meaning held entries is_held matches =
     each_found (λ row. (1 ≤ row.height) × (row.height < 1 + max_height)) held.rows is_held.ascend (λ h row is.
     let own = is_held.own h row is in
     let low = own.low in
@@ -190,12 +191,12 @@ rows_within held entries is_held matches =
     (heights.0, omega (arith, low, of_height)))
 
 -- what is due by the history at a height is what is chosen there
-due_at : (held : ReplayView) (entries : List Entry) → IsWithinLimits held → MatchesHistory held entries
+due_at : (meaning : Meanings) (held : ReplayView) (entries : List Entry) → IsWithinLimits held → MatchesHistory meaning held entries
     → (h : ℕ) (o : Option InstanceView) → row_at held.rows h ≡ o
     → is_due held.config held.id (log_of held.config held.id h entries) (held.clock + 1) ≡ is_chosen (held.clock + 1) o
-due_at held entries is_held matches h None is =
-    none_due held.config held.id (log_of held.config held.id h entries) (held.clock + 1) (closed_there held entries matches h is)
-due_at held entries is_held matches h (Some row) is =
+due_at meaning held entries is_held matches h None is =
+    none_due held.config held.id (log_of held.config held.id h entries) (held.clock + 1) (closed_there meaning held entries matches h is)
+due_at meaning held entries is_held matches h (Some row) is =
     let own = is_held.own h row is in
     let log = log_of held.config held.id h entries in
     ap (λ config. is_due config held.id log (held.clock + 1)) (sym own.config)
@@ -203,12 +204,12 @@ due_at held entries is_held matches h (Some row) is =
     ∙ sym (choice_at held.ring row log held.clock (matches.opened h row is) (matches.clocks h))
 
 -- as many statements are due by what is kept as by the history
-pub due_is : (held : ReplayView) (entries : List Entry) → IsWithinLimits held → MatchesHistory held entries
+pub due_is : (meaning : Meanings) (held : ReplayView) (entries : List Entry) → IsWithinLimits held → MatchesHistory meaning held entries
     → due (held.clock + 1) held.rows ≡ due_by held.config held.id entries
 unfolding due_within
-due_is held entries is_held matches =
+due_is meaning held entries is_held matches =
     sym (count_open (held.clock + 1) (λ h. is_due held.config held.id (log_of held.config held.id h entries) (clock_at entries + 1))
     max_height 1 held.rows
-    is_held.ascend (rows_within held entries is_held matches)
+    is_held.ascend (rows_within meaning held entries is_held matches)
     (λ h low. ap (λ n. is_due held.config held.id (log_of held.config held.id h entries) (n + 1)) matches.clock
-    ∙ due_at held entries is_held matches h (row_at held.rows h) refl))
+    ∙ due_at meaning held entries is_held matches h (row_at held.rows h) refl))

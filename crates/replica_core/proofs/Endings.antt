@@ -1,4 +1,5 @@
 -- How each height closes its round, as lists in the order of heights.
+use Rattle.ledger_model.specs.Meanings.{Meanings}
 use Rattle.std.proofs.Common.{◌≡◌, ℕ, ◌+◌, ◌<◌, Bool, true, false, List, [], ◌∷◌, inl, inr, refl, sym, ap, subst, ◌∙◌, arith}
 use Rattle.std.proofs.Math.Dec.{ltb}
 use Rattle.std.proofs.lemmas.Bool.{cases_lt, lt-ltb, le-ltb}
@@ -113,18 +114,19 @@ pub ready_of : (held : ReplayView) (mute : Bool) (closings : List RoundClosing) 
 ready_of held mute closings early endings own = record { clock = early; endings = endings; own = own; reply = refl }
 
 -- the prepared end is a step, and its leaves are used
-pub end_prepared : (held : ReplayView) (keys new : SignerView) (mute : Bool) (closings : List RoundClosing)
+pub end_prepared : (meaning : Meanings) (held : ReplayView) (keys new : SignerView) (mute : Bool) (closings : List RoundClosing)
     (result : Result PreparedView AllocError) → IfOk result (λ p. p ≡ prepared_of held mute closings)
     → IfOk result (IsPreparedFor held)
-    → IsStep held event.RoundEnd (end_reply held mute (made_by_closings closings)) (after_end held mute (made_by_closings closings))
+    → IsStep meaning held event.RoundEnd (end_reply held mute (made_by_closings closings)) (after_end held mute (made_by_closings closings))
     → UsesLeaves keys held.clock (end_reply held mute (made_by_closings closings)) new
-    → IfOk result (λ p. IsEndPrepared (record { replay = held; keys = keys }) p new)
-end_prepared held keys new mute closings (Ok p) is ready step leaves = record {
+    → IfOk result (λ p. IsEndPrepared meaning (record { replay = held; keys = keys }) p new)
+end_prepared meaning held keys new mute closings (Ok p) is ready step leaves = record {
   ready = ready;
-  step = subst (λ (x : PreparedView). IsStep held event.RoundEnd (reply.RoundEnded (Ok x.ended)) (after_prepared held x)) (sym is) step;
+  step = subst (λ (x : PreparedView). IsStep meaning held event.RoundEnd (reply.RoundEnded (Ok x.ended)) (after_prepared held x))
+      (sym is) step;
   leaves = subst (λ (x : PreparedView). UsesLeaves keys held.clock (reply.RoundEnded (Ok x.ended)) new) (sym is) leaves;
 }
-end_prepared held keys new mute closings (Err e) is ready step leaves = tt
+end_prepared meaning held keys new mute closings (Err e) is ready step leaves = tt
 
 -- fewer leaves are left than are due just where the leaves are fewer than those used and those due
 pub short_of : (left due leaves used : ℕ) → used + left ≡ leaves → ltb left due ≡ ltb leaves (used + due)
@@ -135,12 +137,13 @@ short_of left due leaves used all =
     ]
 
 -- no round is left
-pub over : (held : ReplayView) → held.clock ≡ last_round → IsStep held event.RoundEnd (reply.RoundEnded (Err (record {}))) held
+pub over : (meaning : Meanings) (held : ReplayView) → held.clock ≡ last_round
+    → IsStep meaning held event.RoundEnd (reply.RoundEnded (Err (record {}))) held
 unfolding notes_of
-over held last entries matches = (
+over meaning held last entries matches = (
   matches.clock ∙ last,
   refl,
-  unheard held entries (record { event = event.RoundEnd; reply = reply.RoundEnded (Err (record {})) }) matches refl refl refl
+  unheard meaning held entries (record { event = event.RoundEnd; reply = reply.RoundEnded (Err (record {})) }) matches refl refl refl
       (λ floor. refl) held.pool refl (λ h. refl),
 )
 
@@ -151,7 +154,8 @@ pub planned_by : (old : CoreView) (held : ReplayView) (keys : SignerView) (plans
 planned_by old held keys plans is planned = subst (λ (x : CoreView). plans ≡ map (height_plan (x.replay.clock + 1)) x.replay.rows) (sym is) planned
 
 -- what each height is done with, where all is planned so, and signed
-module _ (old : CoreView) (held : ReplayView) (keys : SignerView) (plans : List RoundPlan) (closings : List RoundClosing)
+module _ (meaning : Meanings) (old : CoreView) (held : ReplayView) (keys : SignerView) (plans : List RoundPlan)
+    (closings : List RoundClosing)
     (is : record { replay = held; keys = keys } ≡ old) (is_held : IsWithinLimits old.replay)
     (planned : plans ≡ map (height_plan (old.replay.clock + 1)) old.replay.rows)
     (signs : SignsPlans keys.secret keys.used plans (map (λ (x : RoundClosing). x.made) closings)) where
@@ -173,12 +177,12 @@ module _ (old : CoreView) (held : ReplayView) (keys : SignerView) (plans : List 
   pub signed_step : old.replay.clock < last_round → old.replay.mute ≡ false → slice_get held.ring held.id ≡ Some (public_key_of keys.secret)
       → AllByRecursion (λ (x : RoundClosing). IsFrameMade x.made) closings
       → AllByRecursion (λ (x : RoundClosing). IsVerifiedMade (public_key_of keys.secret) x.made) closings
-      → IsStep held event.RoundEnd (end_reply held false (map (λ (x : RoundClosing). x.made) closings))
+      → IsStep meaning held event.RoundEnd (end_reply held false (map (λ (x : RoundClosing). x.made) closings))
       (after_end held false (map (λ (x : RoundClosing). x.made) closings))
       × UsesLeaves keys held.clock (end_reply held false (map (λ (x : RoundClosing). x.made) closings))
       (record keys { used = keys.used + due (held.clock + 1) held.rows })
   signed_step early loud own_key frames verified =
-      signed_ends held keys (map (λ (x : RoundClosing). x.made) closings) kept
+      signed_ends meaning held keys (map (λ (x : RoundClosing). x.made) closings) kept
       (subst (λ (x : CoreView). x.replay.clock < last_round) (sym is) early)
       (subst (λ (x : CoreView). x.replay.mute ≡ false) (sym is) loud) own_key from
       (all_both IsFrameMade (IsVerifiedMade (public_key_of keys.secret)) (map (λ (x : RoundClosing). x.made) closings)
@@ -186,15 +190,17 @@ module _ (old : CoreView) (held : ReplayView) (keys : SignerView) (plans : List 
       (all_images (IsVerifiedMade (public_key_of keys.secret)) (λ (x : RoundClosing). x.made) closings verified))
 
 -- the end of a mute replica is a step, and uses no leaf
-pub mute_step : (held : ReplayView) (keys : SignerView) (closings : List RoundClosing) → IsWithinLimits held → held.clock < last_round
+pub mute_step : (meaning : Meanings) (held : ReplayView) (keys : SignerView) (closings : List RoundClosing) → IsWithinLimits held
+    → held.clock < last_round
     → map (λ (x : RoundClosing). x.ending) closings ≡ map (λ row. opened_effects row (held.clock + 1)) held.rows
     → AllByRecursion (λ (x : RoundClosing). x.made ≡ made.Mute) closings
-    → IsStep held event.RoundEnd (end_reply held true (map (λ (x : RoundClosing). x.made) closings))
+    → IsStep meaning held event.RoundEnd (end_reply held true (map (λ (x : RoundClosing). x.made) closings))
     (after_end held true (map (λ (x : RoundClosing). x.made) closings))
     × UsesLeaves keys held.clock (end_reply held true (map (λ (x : RoundClosing). x.made) closings)) keys
-mute_step held keys closings is_held early endings mute =
+mute_step meaning held keys closings is_held early endings mute =
     let made = mades_mute (held.clock + 1) held.rows closings endings mute in
-    let ends = mute_ends held is_held early in (
-      subst (λ (ms : List RoundStatement). IsStep held event.RoundEnd (end_reply held true ms) (after_end held true ms)) (sym made) ends.0,
+    let ends = mute_ends meaning held is_held early in (
+      subst (λ (ms : List RoundStatement). IsStep meaning held event.RoundEnd (end_reply held true ms) (after_end held true ms))
+          (sym made) ends.0,
       subst (λ (ms : List RoundStatement). UsesLeaves keys held.clock (end_reply held true ms) keys) (sym made) (ends.1 keys),
     )

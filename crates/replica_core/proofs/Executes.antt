@@ -1,4 +1,5 @@
 -- The application runs the next block.
+use Rattle.ledger_model.specs.Meanings.{Meanings}
 use Rattle.std.proofs.Common.{◌≡◌, ℕ, ◌+◌, List, [], ◌∷◌, ◌++◌, length, refl, sym, ap, subst, ◌∙◌, arith}
 use Rattle.std.specs.Prelude.{Option, Some, None, Result, Ok, Err}
 use Rattle.std.proofs.Math.Bool.{or-false}
@@ -28,30 +29,33 @@ last_of [] v = refl
 last_of (w ∷ []) v = refl
 last_of (w ∷ x ∷ vs) v = last_of (x ∷ vs) v
 
-module _ (held : ReplayView) (one : IsOneCluster held) (entries : List Entry) (matches : MatchesHistory held entries) where
+module _ (meaning : Meanings) (held : ReplayView) (one : IsOneCluster held) (entries : List Entry)
+    (matches : MatchesHistory meaning held entries) where
   -- the height after the committed ones is decided by what is kept as by the history
   decided_next : next_decided held ≡ decided_at held.config held.id entries (length (commits_of held.config held.id entries) + 1)
   decided_next =
-      decided_from held entries matches one (length held.commits + 1) matches.low
+      decided_from meaning held entries matches one (length held.commits + 1) matches.low
       ∙ ap (λ vs. decided_at held.config held.id entries (length vs + 1)) (sym matches.commits)
 
   -- what is answered by what is kept is what is answered by the history
-  answered : execute_held held ≡ execute_reply held.config held.id entries
+  answered : execute_held meaning held ≡ execute_reply meaning held.config held.id entries
   unfolding execute_reply
   answered =
-      ap (block_of held.config held.commits) decided_next
-      ∙ ap (λ vs. block_of held.config vs (decided_at held.config held.id entries (length (commits_of held.config held.id entries) + 1)))
+      ap (block_of meaning held.config held.commits) decided_next
+      ∙ ap (λ vs. block_of meaning held.config vs (decided_at held.config held.id entries
+      (length (commits_of held.config held.id entries) + 1)))
       (sym matches.commits)
 
   -- nothing is decided
-  unchanged : MatchesHistory held (entries ++ record { event = event.Execute; reply = reply.Executed (Err (record {})) } ∷ [])
+  unchanged : MatchesHistory meaning held (entries ++ record { event = event.Execute; reply = reply.Executed (Err (record {})) } ∷ [])
   unfolding notes_of
-  unchanged = unheard held entries (record { event = event.Execute; reply = reply.Executed (Err (record {})) }) matches refl refl refl
+  unchanged = unheard meaning held entries (record { event = event.Execute; reply = reply.Executed (Err (record {})) }) matches refl refl
+      refl
       (λ floor. refl) held.pool refl (λ h. refl)
 
   -- a block is run
   with_one : (v : Value) (b : BlockResult) → next_decided held ≡ Some v
-      → MatchesHistory (with_block held v) (entries ++ record { event = event.Execute; reply = reply.Executed (Ok b) } ∷ [])
+      → MatchesHistory meaning (with_block meaning held v) (entries ++ record { event = event.Execute; reply = reply.Executed (Ok b) } ∷ [])
   unfolding notes_of
   with_one v b is = record {
     clock = clock_more entries entry ∙ (let c = matches.clock in omega (arith, c));
@@ -62,10 +66,11 @@ module _ (held : ReplayView) (one : IsOneCluster held) (entries : List Entry) (m
     floor = floor_of-snoc entries entry ∙ matches.floor;
     low = (let low = matches.low in let one_more = length-append held.commits (v ∷ []) in omega (arith, low, one_more));
     pool =
-        pool_more held.config held.id entries entry
-        ∙ ap (λ vs. pool_step held.config vs (pool_of held.config held.id entries) event.Execute (reply.Executed (Ok b))) commits
-        ∙ ap (λ p. pool_step held.config (held.commits ++ v ∷ []) p event.Execute (reply.Executed (Ok b))) matches.pool
-        ∙ ap (λ w. pool_after_block held.config (held.commits ++ v ∷ []) w held.pool) (last_of held.commits v);
+        pool_more meaning held.config held.id entries entry
+        ∙ ap (λ vs. pool_step meaning held.config vs (pool_of meaning held.config held.id entries) event.Execute (reply.Executed (Ok b)))
+        commits
+        ∙ ap (λ p. pool_step meaning held.config (held.commits ++ v ∷ []) p event.Execute (reply.Executed (Ok b))) matches.pool
+        ∙ ap (λ w. pool_after_block meaning held.config (held.commits ++ v ∷ []) w held.pool) (last_of held.commits v);
     commits = commits;
     machine = refl;
     blocks = blocks_more held.config held.id entries entry v matches.blocks refl decided;
@@ -76,7 +81,7 @@ module _ (held : ReplayView) (one : IsOneCluster held) (entries : List Entry) (m
       entry = record { event = event.Execute; reply = reply.Executed (Ok b) }
 
       same : (h : ℕ) → log_of held.config held.id h (entries ++ entry ∷ []) ≡ log_of held.config held.id h entries
-      same h = log_stays held entries entry h refl
+      same h = log_stays meaning held entries entry h refl
 
       decided : decided_at held.config held.id entries (executed entries + 1) ≡ Some v
       decided = ap (λ n. decided_at held.config held.id entries (n + 1)) (sym (count_commits held.config held.id entries matches.blocks))
@@ -86,19 +91,20 @@ module _ (held : ReplayView) (one : IsOneCluster held) (entries : List Entry) (m
       commits = commits_more held.config held.id entries entry v matches.blocks refl decided ∙ ap (λ vs. vs ++ v ∷ []) matches.commits
 
 -- the next block is run, or nothing is decided
-pub executes : (held : ReplayView) (answer : Result BlockResult NothingDecided) → IsOneCluster held → answer ≡ execute_held held
-    → IsStep held event.Execute (reply.Executed answer) (after_execute held (next_decided held))
-executes held answer one is entries matches = (
-  is ∙ answered held one entries matches,
+pub executes : (meaning : Meanings) (held : ReplayView) (answer : Result BlockResult NothingDecided) → IsOneCluster held
+    → answer ≡ execute_held meaning held
+    → IsStep meaning held event.Execute (reply.Executed answer) (after_execute meaning held (next_decided held))
+executes meaning held answer one is entries matches = (
+  is ∙ answered meaning held one entries matches,
   refl,
   by (next_decided held) refl answer is,
 )
   where
-    by : (o : Option Value) → next_decided held ≡ o → (a : Result BlockResult NothingDecided) → a ≡ execute_held held
-        → MatchesHistory (after_execute held o) (entries ++ record { event = event.Execute; reply = reply.Executed a } ∷ [])
-    by None none a e = subst (λ x. MatchesHistory held (entries ++ record { event = event.Execute; reply = reply.Executed x } ∷ []))
-        (sym (e ∙ ap (block_of held.config held.commits) none)) (unchanged held one entries matches)
-    by (Some v) some a e = subst (λ x. MatchesHistory (with_block held v)
+    by : (o : Option Value) → next_decided held ≡ o → (a : Result BlockResult NothingDecided) → a ≡ execute_held meaning held
+        → MatchesHistory meaning (after_execute meaning held o) (entries ++ record { event = event.Execute; reply = reply.Executed a } ∷ [])
+    by None none a e = subst (λ x. MatchesHistory meaning held (entries ++ record { event = event.Execute; reply = reply.Executed x } ∷ []))
+        (sym (e ∙ ap (block_of meaning held.config held.commits) none)) (unchanged meaning held one entries matches)
+    by (Some v) some a e = subst (λ x. MatchesHistory meaning (with_block meaning held v)
         (entries ++ record { event = event.Execute; reply = reply.Executed x } ∷ []))
-        (sym (e ∙ ap (block_of held.config held.commits) some))
-        (with_one held one entries matches v (block_reply held.config.kind held.commits v) some)
+        (sym (e ∙ ap (block_of meaning held.config held.commits) some))
+        (with_one meaning held one entries matches v (block_reply meaning held.config.kind held.commits v) some)

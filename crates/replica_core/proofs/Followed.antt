@@ -1,4 +1,5 @@
 -- An entry is taken if its reply is the one that is due.
+use Rattle.ledger_model.specs.Meanings.{Meanings}
 use Rattle.std.proofs.Common.{◌≡◌, ℕ, Bool, true, false, List, [], ◌∷◌, ◌++◌, refl, sym, ap, subst, ◌∙◌}
 use Rattle.std.specs.Prelude.{◌↔◌, IsTrue, Option, Some, None, Result, Ok, Err}
 use Rattle.ledger_model.specs.declared.event.Event.{Event}
@@ -23,28 +24,31 @@ use Rattle.replica_core.specs.Steps.{IsStep, after_execute, after_retire}
 use Rattle.replica_core.specs.Following.{KeepsReplay, IsFollowed, IsSameReplay}
 
 -- an entry that keeps no replay one is refused
-pub refused : (old new : ReplayView) (event : Event) (reply : Reply)
-    → ((entries : List Entry) → MatchesHistory old entries → KeepsReplay old entries event reply → ⊥) → IsFollowed old event reply false new
-refused old new event reply none = record {
+pub refused : (meaning : Meanings) (old new : ReplayView) (event : Event) (reply : Reply)
+    → ((entries : List Entry) → MatchesHistory meaning old entries → KeepsReplay meaning old entries event reply → ⊥)
+    → IsFollowed meaning old event reply false new
+refused meaning old new event reply none = record {
   exact = λ entries matches. (λ yes. absurd (cc yes), λ keeps. absurd (none entries matches keeps));
   matches = λ yes entries matches. absurd (cc yes);
 }
 
 -- an answer is compared with the one that is due, where only one is lawful
-pub compared : {R : Type 0} (old new : ReplayView) (event : Event) (wrap : R → Reply) (lawful : List Entry → R) (due shown : R)
+pub compared : (meaning : Meanings) → {R : Type 0} (old new : ReplayView) (event : Event) (wrap : R → Reply) (lawful : List Entry → R)
+    (due shown : R)
     (kept : Bool) → (kept ≡ true ↔ due ≡ shown)
-    → ((entries : List Entry) (r : R) → Lawful old.config old.ring old.id entries event (wrap r) → r ≡ lawful entries)
+    → ((entries : List Entry) (r : R) → Lawful meaning old.config old.ring old.id entries event (wrap r) → r ≡ lawful entries)
     → ((r : R) → IsTrue (is_signed_reply old.ring (wrap r)))
-    → IsStep old event (wrap due) new → IsFollowed old event (wrap shown) kept new
-compared old new event wrap lawful due shown kept same one signed step = record {
+    → IsStep meaning old event (wrap due) new → IsFollowed meaning old event (wrap shown) kept new
+compared meaning old new event wrap lawful due shown kept same one signed step = record {
   exact = λ entries matches. (
     λ yes. record {
-      lawful = subst (λ r. Lawful old.config old.ring old.id entries event (wrap r)) (same.0 yes) (step entries matches).0;
+      lawful = subst (λ r. Lawful meaning old.config old.ring old.id entries event (wrap r)) (same.0 yes) (step entries matches).0;
       signed = signed shown;
     },
     λ keeps. same.1 (one entries due (step entries matches).0 ∙ sym (one entries shown keeps.lawful)),
   );
-  matches = λ yes entries matches. subst (λ r. MatchesHistory new (entries ++ record { event = event; reply = wrap r } ∷ [])) (same.0 yes)
+  matches = λ yes entries matches. subst (λ r. MatchesHistory meaning new (entries ++ record { event = event; reply = wrap r } ∷ []))
+      (same.0 yes)
       (step entries matches).2;
 }
 
@@ -59,9 +63,10 @@ pub same_rows : (old new : ReplayView) → new ≡ record old { rows = new.rows 
 same_rows old new is = record { config = ap (λ h. h.config) is; id = ap (λ h. h.id) is; ring = ap (λ h. h.ring) is }
 
 -- where a block was run
-pub same_run : (old new : ReplayView) (block : Option Value) → new ≡ after_execute old block → IsSameReplay old new
-same_run old new None is = same_kept old new is
-same_run old new (Some block) is = record { config = ap (λ h. h.config) is; id = ap (λ h. h.id) is; ring = ap (λ h. h.ring) is }
+pub same_run : (meaning : Meanings) (old new : ReplayView) (block : Option Value) → new ≡ after_execute meaning old block
+    → IsSameReplay old new
+same_run meaning old new None is = same_kept old new is
+same_run meaning old new (Some block) is = record { config = ap (λ h. h.config) is; id = ap (λ h. h.id) is; ring = ap (λ h. h.ring) is }
 
 -- where heights were given up
 pub same_retired : (old new : ReplayView) (answer : Result ℕ RetireRefusal) → new ≡ after_retire old answer
@@ -71,9 +76,9 @@ same_retired old new (Ok f) is = record { config = ap (λ h. h.config) is; id = 
 
 -- ---- each event has replies of its own
 
-module _ (held : ReplayView) (entries : List Entry) where
+module _ (meaning : Meanings) (held : ReplayView) (entries : List Entry) where
   abbrev LawfulTo : Event → Reply → Type 0
-  LawfulTo event reply = Lawful held.config held.ring held.id entries event reply
+  LawfulTo event reply = Lawful meaning held.config held.ring held.id entries event reply
 
   pub submitted_only : (tx : List ℕ) (shown : Reply) → ((r : Result (Unit {0}) SubmitRefusal) → shown ≡ reply.Submitted r → ⊥)
       → LawfulTo (event.Submit tx) shown → ⊥

@@ -1,4 +1,5 @@
 -- A history with one more entry.
+use Rattle.ledger_model.specs.Meanings.{Meanings}
 use Rattle.std.proofs.Common.{◌≡◌, ℕ, zero, suc, ◌+◌, ◌<◌, ◌≤◌, Bool, true, false, cond, inl, inr, List, [], ◌∷◌, ◌++◌, length, refl, sym}
 use Rattle.std.proofs.Common.{ap, subst, ◌∙◌, append_assoc, arith}
 use Rattle.std.specs.Prelude.{◌||◌, Option, Some, is_some}
@@ -18,20 +19,22 @@ use Rattle.std.proofs.lemmas.List.Folds.{list_any-append}
 use Rattle.ledger_model.proofs.Lists.{range_more}
 
 -- the pool
-pub pool_more : (config : Config) (id : ℕ) (entries : List Entry) (e : Entry)
-    → pool_of config id (entries ++ e ∷ [])
-    ≡ pool_step config (commits_of config id (entries ++ e ∷ [])) (pool_of config id entries) e.event e.reply
+pub pool_more : (meaning : Meanings) (config : Config) (id : ℕ) (entries : List Entry) (e : Entry)
+    → pool_of meaning config id (entries ++ e ∷ [])
+    ≡ pool_step meaning config (commits_of config id (entries ++ e ∷ [])) (pool_of meaning config id entries) e.event e.reply
 unfolding pool_of pool_after
-pool_more config id entries e = more [] [] entries
+pool_more meaning config id entries e = more [] [] entries
   where
     more : (front : List Entry) (pool : Value) (xs : List Entry)
-        → pool_after config id front pool (xs ++ e ∷ [])
-        ≡ pool_step config (commits_of config id (front ++ (xs ++ e ∷ []))) (pool_after config id front pool xs) e.event e.reply
+        → pool_after meaning config id front pool (xs ++ e ∷ [])
+        ≡ pool_step meaning config (commits_of config id (front ++ (xs ++ e ∷ [])))
+        (pool_after meaning config id front pool xs) e.event e.reply
     more front pool [] = refl
     more front pool (x ∷ xs) =
-        let next : Value = pool_step config (commits_of config id (front ++ x ∷ [])) pool x.event x.reply in
+        let next : Value = pool_step meaning config (commits_of config id (front ++ x ∷ [])) pool x.event x.reply in
         more (front ++ x ∷ []) next xs
-        ∙ ap (λ (es : List Entry). pool_step config (commits_of config id es) (pool_after config id (front ++ x ∷ []) next xs) e.event
+        ∙ ap (λ (es : List Entry). pool_step meaning config (commits_of config id es)
+        (pool_after meaning config id (front ++ x ∷ []) next xs) e.event
         e.reply) (append_assoc front (x ∷ []) (xs ++ e ∷ []))
 
 -- the clock

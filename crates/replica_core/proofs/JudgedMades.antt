@@ -1,4 +1,5 @@
 -- What an open height may make, by the log that it matches.
+use Rattle.ledger_model.specs.Meanings.{Meanings}
 use Rattle.std.proofs.Common.{◌≡◌, ℕ, ◌+◌, ◌⊎◌, true, false, List, [], ◌∷◌, map, suc, length, refl, arith}
 use Rattle.std.specs.Prelude.{Some, None, slice_get}
 use Rattle.std.specs.List.{AllByRecursion}
@@ -50,14 +51,15 @@ module _ (ring : Ring) (row : InstanceView) (log : List Note) (clock : ℕ) (old
 -- ---- at each height
 
 -- what is left of the heights, and of what they make, decides of them all
-pub record IsJudging (held : ReplayView) (xs : List RoundClosing) (rows_left : List InstanceView) (left : List RoundClosing) : Type 0
+pub record IsJudging (meaning : Meanings) (held : ReplayView) (xs : List RoundClosing) (rows_left : List InstanceView)
+    (left : List RoundClosing) : Type 0
   where
     pub count : length left ≡ length rows_left
     -- each of these heights is open
     pub found : AllByRecursion (λ row. row_at held.rows row.height ≡ Some row) rows_left
     pub own : AllByRecursion (λ x. IsOwnMade held.config held.id x.made) left
         → AllByRecursion (λ x. IsOwnMade held.config held.id x.made) xs
-    pub may : (entries : List Entry) → MatchesHistory held entries
+    pub may : (entries : List Entry) → MatchesHistory meaning held entries
         → AreMade held.ring false (held.clock + 1) rows_left (map (λ x. x.made) left)
         → AreMade held.ring false (held.clock + 1) held.rows (map (λ x. x.made) xs)
     pub only : AreMade held.ring false (held.clock + 1) held.rows (map (λ x. x.made) xs)
@@ -68,8 +70,8 @@ each_there : (P : InstanceView → Type 0) (rows : List InstanceView)
 each_there P [] each = tt
 each_there P (row ∷ rows) each = (each 0 row refl, each_there P rows (λ place x is. each (suc place) x is))
 
-module _ (held : ReplayView) (xs : List RoundClosing) where
-  pub judging_begins : AreFound held.rows → length xs ≡ length held.rows → IsJudging held xs held.rows xs
+module _ (meaning : Meanings) (held : ReplayView) (xs : List RoundClosing) where
+  pub judging_begins : AreFound held.rows → length xs ≡ length held.rows → IsJudging meaning held xs held.rows xs
   judging_begins found count = record {
     count = count;
     found = each_there (λ row. row_at held.rows row.height ≡ Some row) held.rows found;
@@ -80,10 +82,10 @@ module _ (held : ReplayView) (xs : List RoundClosing) where
 
   -- the next height may make what it does
   pub judging_next : {rows_left : List InstanceView} {left : List RoundClosing} (row : InstanceView) (rows : List InstanceView)
-      (x : RoundClosing) (later : List RoundClosing) → IsJudging held xs rows_left left → rows_left ≡ row ∷ rows → left ≡ x ∷ later
+      (x : RoundClosing) (later : List RoundClosing) → IsJudging meaning held xs rows_left left → rows_left ≡ row ∷ rows → left ≡ x ∷ later
       → IsOwnMade held.config held.id x.made
-      → ((entries : List Entry) → MatchesHistory held entries → IsMadeAt held.ring false (held.clock + 1) row x.made)
-      → IsJudging held xs rows later
+      → ((entries : List Entry) → MatchesHistory meaning held entries → IsMadeAt held.ring false (held.clock + 1) row x.made)
+      → IsJudging meaning held xs rows later
   judging_next row rows x later judging first next own made =
       let at = rw (first, next) at judging in
       record {
@@ -96,27 +98,27 @@ module _ (held : ReplayView) (xs : List RoundClosing) where
 
   -- each is open, and what it makes is one of them
   pub judged_row : {rows_left : List InstanceView} {left : List RoundClosing} (row : InstanceView) (rows : List InstanceView)
-      → IsJudging held xs rows_left left → rows_left ≡ row ∷ rows → row_at held.rows row.height ≡ Some row
+      → IsJudging meaning held xs rows_left left → rows_left ≡ row ∷ rows → row_at held.rows row.height ≡ Some row
   judged_row row rows judging first = (rw first at judging.found).0
 
   pub judged_made : {rows_left : List InstanceView} {left : List RoundClosing} (row : InstanceView) (rows : List InstanceView)
-      (x : RoundClosing) (later : List RoundClosing) → IsJudging held xs rows_left left → rows_left ≡ row ∷ rows → left ≡ x ∷ later
+      (x : RoundClosing) (later : List RoundClosing) → IsJudging meaning held xs rows_left left → rows_left ≡ row ∷ rows → left ≡ x ∷ later
       → AreMade held.ring false (held.clock + 1) held.rows (map (λ x. x.made) xs)
       → IsMadeAt held.ring false (held.clock + 1) row x.made
   judged_made row rows x later judging first next all = ((rw (first, next) at judging).only all).0
 
   -- in the end they are judged
-  both_end : {rows_left : List InstanceView} {left : List RoundClosing} → IsJudging held xs rows_left left
-      → (rows_left ≡ []) ⊎ (length left ≡ 0) → IsJudging held xs [] []
+  both_end : {rows_left : List InstanceView} {left : List RoundClosing} → IsJudging meaning held xs rows_left left
+      → (rows_left ≡ []) ⊎ (length left ≡ 0) → IsJudging meaning held xs [] []
   both_end {rows_left = rows_left} {left = left} judging end =
       let ended = both_ended rows_left left judging.count end in
       rw (ended.0, ended.1) at judging
 
-  pub judged_may : {rows_left : List InstanceView} {left : List RoundClosing} → IsJudging held xs rows_left left
-      → (rows_left ≡ []) ⊎ (length left ≡ 0) → (entries : List Entry) → MatchesHistory held entries
+  pub judged_may : {rows_left : List InstanceView} {left : List RoundClosing} → IsJudging meaning held xs rows_left left
+      → (rows_left ≡ []) ⊎ (length left ≡ 0) → (entries : List Entry) → MatchesHistory meaning held entries
       → AreMade held.ring false (held.clock + 1) held.rows (map (λ x. x.made) xs)
   judged_may judging end entries matches = (both_end judging end).may entries matches tt
 
-  pub judged_own : {rows_left : List InstanceView} {left : List RoundClosing} → IsJudging held xs rows_left left
+  pub judged_own : {rows_left : List InstanceView} {left : List RoundClosing} → IsJudging meaning held xs rows_left left
       → (rows_left ≡ []) ⊎ (length left ≡ 0) → AllByRecursion (λ x. IsOwnMade held.config held.id x.made) xs
   judged_own judging end = (both_end judging end).own tt

@@ -1,4 +1,5 @@
 -- The application, run alone on the committed batches.
+use Rattle.ledger_model.specs.Meanings.{Meanings}
 use Rattle.std.proofs.Common.{◌≡◌, ℕ, List, [], ◌∷◌, ◌++◌, length, sym, ap, ◌∙◌}
 use Rattle.std.specs.Prelude.{Result}
 use Rattle.ledger_model.specs.declared.config.AppKind.{AppKind}
@@ -16,7 +17,7 @@ use Rattle.abci_executor.specs.Blocks.{AddsBlock, IsQueryReply, ShowsBlocks}
 use Rattle.batch_pool.specs.Pools.{AnswersSubmission, LeavesWaiting}
 use Rattle.replica_core.specs.Facts.{info_reply}
 
-module _ (m : Machine) (kind : AppKind) (batches : List Value) (is : m ≡ run kind batches) where
+module _ (meaning : Meanings) (m : Machine) (kind : AppKind) (batches : List Value) (is : m ≡ run meaning kind batches) where
   -- it is of the kind
   pub kind_is : m.kind ≡ kind
   unfolding run
@@ -28,47 +29,50 @@ module _ (m : Machine) (kind : AppKind) (batches : List Value) (is : m ≡ run k
   height_is = ap (λ (x : Machine). x.height) is
 
   -- these blocks led to it by its own kind
-  pub reached : m ≡ run m.kind batches
-  reached = is ∙ ap (λ k. run k batches) (sym kind_is)
+  pub reached : m ≡ run meaning m.kind batches
+  reached = is ∙ ap (λ k. run meaning k batches) (sym kind_is)
 
   -- what is replied to a key
-  pub replied : (key : List ℕ) (height : ℕ) (reply : Result QueryAnswer NotHeld) → IsQueryReply m key height reply
-      → reply ≡ query_reply kind batches key height
-  replied key height reply shown = shown batches reached ∙ ap (λ k. query_reply k batches key height) kind_is
+  pub replied : (key : List ℕ) (height : ℕ) (reply : Result QueryAnswer NotHeld) → IsQueryReply meaning m key height reply
+      → reply ≡ query_reply meaning kind batches key height
+  replied key height reply shown = shown batches reached ∙ ap (λ k. query_reply meaning k batches key height) kind_is
 
   -- what is answered to a transaction
   pub answered : (app : Machine) (pool : Value) (tx : List ℕ) (answer : Result (Unit {0}) SubmitRefusal) → without_work app ≡ m
-      → AnswersSubmission app pool tx answer
-      → answer ≡ submit_answer pool tx (check_reply kind batches tx)
+      → AnswersSubmission meaning app pool tx answer
+      → answer ≡ submit_answer pool tx (check_reply meaning kind batches tx)
   answered app pool tx answer same shown =
-      shown batches (same ∙ reached_by) ∙ ap (λ k. submit_answer pool tx (check_reply k batches tx)) of_kind
+      shown batches (same ∙ reached_by) ∙ ap (λ k. submit_answer pool tx (check_reply meaning k batches tx)) of_kind
     where
       of_kind : app.kind ≡ kind
       of_kind = ap (λ (x : Machine). x.kind) same ∙ kind_is
 
-      reached_by : m ≡ run app.kind batches
-      reached_by = is ∙ ap (λ k. run k batches) (sym of_kind)
+      reached_by : m ≡ run meaning app.kind batches
+      reached_by = is ∙ ap (λ k. run meaning k batches) (sym of_kind)
 
   -- what a block leaves of the pool
-  pub left : (app : Machine) (block old new : Value) → without_work app ≡ m → LeavesWaiting app block old new
-      → new ≡ left_after block (check_reply kind batches) old
+  pub left : (app : Machine) (block old new : Value) → without_work app ≡ m → LeavesWaiting meaning app block old new
+      → new ≡ left_after block (check_reply meaning kind batches) old
   left app block old new same shown =
-      shown batches (same ∙ is ∙ ap (λ k. run k batches) (sym of_kind)) ∙ ap (λ k. left_after block (check_reply k batches) old) of_kind
+      shown batches (same ∙ is ∙ ap (λ k. run meaning k batches) (sym of_kind))
+      ∙ ap (λ k. left_after block (check_reply meaning k batches) old) of_kind
     where
       of_kind : app.kind ≡ kind
       of_kind = ap (λ (x : Machine). x.kind) same ∙ kind_is
 
   -- what a block answers, and what it leads to
-  pub added : (batch : Value) (block : BlockResult) (new : Machine) → AddsBlock m batch block new → block ≡ block_reply kind batches batch
-  added batch block new adds = (adds batches reached).0 ∙ ap (λ k. block_reply k batches batch) kind_is
+  pub added : (batch : Value) (block : BlockResult) (new : Machine) → AddsBlock meaning m batch block new
+      → block ≡ block_reply meaning kind batches batch
+  added batch block new adds = (adds batches reached).0 ∙ ap (λ k. block_reply meaning k batches batch) kind_is
 
   -- and the machine then
-  pub led : (batch : Value) (block : BlockResult) (new : Machine) → AddsBlock m batch block new → new ≡ run kind (batches ++ batch ∷ [])
-  led batch block new adds = (adds batches reached).1 ∙ ap (λ k. run k (batches ++ batch ∷ [])) kind_is
+  pub led : (batch : Value) (block : BlockResult) (new : Machine) → AddsBlock meaning m batch block new
+      → new ≡ run meaning kind (batches ++ batch ∷ [])
+  led batch block new adds = (adds batches reached).1 ∙ ap (λ k. run meaning k (batches ++ batch ∷ [])) kind_is
 
   -- what it answers of itself
-  pub shown : (info : Info) → ShowsBlocks m info → info ≡ info_reply kind batches
+  pub shown : (info : Info) → ShowsBlocks meaning m info → info ≡ info_reply meaning kind batches
   shown info shows =
       let height = (shows batches reached).0 in
-      let hash : info.hash ≡ hash_of kind batches = (shows batches reached).1 ∙ ap (λ k. hash_of k batches) kind_is in
+      let hash : info.hash ≡ hash_of meaning kind batches = (shows batches reached).1 ∙ ap (λ k. hash_of meaning k batches) kind_is in
       λ i. record { height = height i; hash = hash i }

@@ -1,4 +1,5 @@
 -- A new core matches the empty history.
+use Rattle.ledger_model.specs.Meanings.{Meanings}
 use Rattle.std.proofs.Common.{ℕ, [], refl, arith}
 use Rattle.ledger_model.specs.declared.config.Config.{Config}
 use Rattle.ledger_model.specs.Rules.{Ring}
@@ -7,9 +8,10 @@ use Rattle.ledger_model.specs.Commits.{commits_of, floor_of, pool_of, pool_after
 use Rattle.replica_core.specs.Replays.{new_replay, MatchesHistory}
 
 -- before the first event
-pub new_matches : (config : Config) (id : ℕ) (ring : Ring) → MatchesHistory (new_replay config id ring) []
+pub new_matches : (meaning : Meanings) (config : Config) (id : ℕ) (ring : Ring)
+    → MatchesHistory meaning (new_replay meaning config id ring) []
 unfolding pool_of pool_after log_of log_after commits_of floor_of
-new_matches config id ring = record {
+new_matches meaning config id ring = record {
   clock = refl;
   clocks = λ h. refl;
   opened = λ h row at. cc;

@@ -1,4 +1,5 @@
 -- What is ignored before its signature is checked is ignored with that cause, whatever the signature is.
+use Rattle.ledger_model.specs.Meanings.{Meanings}
 use Rattle.std.proofs.Common.{◌≡◌, ℕ, ◌<◌, ◌≤◌, Bool, true, false, inl, inr, List, [], ◌∷◌, ◌++◌, refl, sym, ap, subst, ◌∙◌}
 use Rattle.std.specs.Prelude.{Some, None, Result, Ok, Err, IfErr, OnOk}
 use Rattle.std.proofs.lemmas.Bool.{lt-ltb, le-ltb}
@@ -46,15 +47,15 @@ module _ (config : Config) (ring : Ring) (log : List Note) (s : SignedStatement)
   unsigned_after h unsigned = first_follows (causes_before_signature config log s.statement [])
       (proof_causes config ring (is_table_full log s.statement) (is_not_mine log s.statement) s) h ∙ rw unsigned refl
 
-module _ (held : ReplayView) (s : Statement) (entries : List Entry) where
+module _ (meaning : Meanings) (held : ReplayView) (s : Statement) (entries : List Entry) where
   pub stranger_before : held.config.replicas ≤ signer_of s → answer_before_signature held.config held.id entries s ≡ Err cause.Signer
   stranger_before high = simp (le-ltb (signer_of s) held.config.replicas high) refl
 
-  module _ (matches : MatchesHistory held entries) (low : signer_of s < held.config.replicas) where
+  module _ (matches : MatchesHistory meaning held entries) (low : signer_of s < held.config.replicas) where
     pub unopened_before : row_at held.rows (height_of s) ≡ None
         → answer_before_signature held.config held.id entries s ≡ Err cause.NoRow
     unopened_before none =
-        simp (lt-ltb (signer_of s) held.config.replicas low, closed_there held entries matches (height_of s) none) refl
+        simp (lt-ltb (signer_of s) held.config.replicas low, closed_there meaning held entries matches (height_of s) none) refl
 
     -- where the height is open, its instance decides
     pub judged_before : (row : InstanceView) (r : Result (Unit {0}) Ignored)

@@ -1,4 +1,5 @@
 -- The replica opens a height.
+use Rattle.ledger_model.specs.Meanings.{Meanings}
 use Rattle.std.proofs.Common.{◌≡◌, ℕ, ◌+◌, ◌<◌, ◌≤◌, Bool, true, false, cond, inl, inr, List, [], ◌∷◌, ◌++◌, length, refl, sym, ap, subst}
 use Rattle.std.proofs.Common.{◌∙◌, arith}
 use Rattle.std.specs.Prelude.{◌==◌, ◌||◌, nat_lt, take, Option, Some, None, is_some, Result, Ok, Err, OnErr, IfOk, OnOk}
@@ -44,9 +45,9 @@ fits false true b c v w e = cc
 fits false false true c v w e = cc
 fits false false false c v w e = (refl, refl)
 
-module _ (held : ReplayView) (h : ℕ) (entries : List Entry) (matches : MatchesHistory held entries) where
+module _ (meaning : Meanings) (held : ReplayView) (h : ℕ) (entries : List Entry) (matches : MatchesHistory meaning held entries) where
   -- what is answered by what is kept is what is answered by the history
-  answered : propose_held held h ≡ propose_reply held.config held.id entries h
+  answered : propose_held held h ≡ propose_reply meaning held.config held.id entries h
   unfolding propose_reply
   answered =
       valued ((h == 0) || nat_lt max_height h) (nat_lt h held.floor) (is_some (row_at held.rows h))
@@ -54,7 +55,8 @@ module _ (held : ReplayView) (h : ℕ) (entries : List Entry) (matches : Matches
       ∙ ap (λ n. first_fault (faults ((h == 0) || nat_lt max_height h) (nat_lt h n) (is_some (row_at held.rows h))
       (nat_lt (length held.commits + max_ahead) h)) (take (batch_limit held.config.frames) held.pool)) (sym matches.floor)
       ∙ ap (λ b. first_fault (faults ((h == 0) || nat_lt max_height h) (nat_lt h (floor_of entries)) b
-      (nat_lt (length held.commits + max_ahead) h)) (take (batch_limit held.config.frames) held.pool)) (opened_there held entries matches h)
+      (nat_lt (length held.commits + max_ahead) h)) (take (batch_limit held.config.frames) held.pool))
+      (opened_there meaning held entries matches h)
       ∙ ap (λ vs. first_fault (faults ((h == 0) || nat_lt max_height h) (nat_lt h (floor_of entries))
       (is_open (log_of held.config held.id h entries)) (nat_lt (length vs + max_ahead) h))
       (take (batch_limit held.config.frames) held.pool))
@@ -64,9 +66,10 @@ module _ (held : ReplayView) (h : ℕ) (entries : List Entry) (matches : Matches
       (take (batch_limit held.config.frames) p)) (sym matches.pool)
 
   -- a height that is refused
-  refused : (f : ProposeRefusal) → MatchesHistory held (entries ++ record { event = event.Propose h; reply = reply.Proposed (Err f) } ∷ [])
+  refused : (f : ProposeRefusal) → MatchesHistory meaning held
+      (entries ++ record { event = event.Propose h; reply = reply.Proposed (Err f) } ∷ [])
   unfolding notes_of
-  refused f = unheard held entries (record { event = event.Propose h; reply = reply.Proposed (Err f) }) matches refl refl refl
+  refused f = unheard meaning held entries (record { event = event.Propose h; reply = reply.Proposed (Err f) }) matches refl refl refl
       (λ floor. refl) held.pool refl (λ g. refl)
 
   module _ (v : Value) where
@@ -77,22 +80,23 @@ module _ (held : ReplayView) (h : ℕ) (entries : List Entry) (matches : Matches
     -- the log there has the proposal more
     log_here : log_of held.config held.id h (entries ++ entry ∷ []) ≡ log_of held.config held.id h entries ++ Proposed v ∷ []
     unfolding notes_of
-    log_here = log_then held entries entry h
+    log_here = log_then meaning held entries entry h
         ∙ ap (λ b. log_of held.config held.id h entries ++ cond b (Proposed v ∷ []) []) (eq-eqb h h refl)
 
     -- the other logs are as before
     log_there : (g : ℕ) → (g ≡ h → ⊥) → log_of held.config held.id g (entries ++ entry ∷ []) ≡ log_of held.config held.id g entries
     unfolding notes_of
-    log_there g other = log_stays held entries entry g (ap (λ b. cond b (Proposed v ∷ []) []) (ne_eqb h g (λ same. other (sym same))))
+    log_there g other = log_stays meaning held entries entry g
+        (ap (λ b. cond b (Proposed v ∷ []) []) (ne_eqb h g (λ same. other (sym same))))
 
     -- what is kept then matches
     opened_more : (rows : List InstanceView) → is_some (row_at rows h) ≡ true → AreApart h held.rows rows
         → ((row : InstanceView) → row_at rows h ≡ Some row → (ring : Ring) (log : List Note) → only_rounds log ≡ true
         → MatchesLog ring row (log ++ Proposed v ∷ []))
         → is_some (row_at held.rows h) ≡ false → held.floor ≤ h
-        → MatchesHistory (record held { rows = rows }) (entries ++ entry ∷ [])
+        → MatchesHistory meaning (record held { rows = rows }) (entries ++ entry ∷ [])
     opened_more rows there apart fresh closed from =
-        quiet held entries entry matches refl refl refl (λ floor. refl) rows held.pool refl clocks opened unopened retired
+        quiet meaning held entries entry matches refl refl refl (λ floor. refl) rows held.pool refl clocks opened unopened retired
       where
         before : only_rounds (log_of held.config held.id h entries) ≡ true
         before = by (row_at held.rows h) refl
@@ -129,25 +133,25 @@ module _ (held : ReplayView) (h : ℕ) (entries : List Entry) (matches : Matches
         ]
 
 -- a height is opened, or refused
-pub proposes : (held new : ReplayView) (h : ℕ) (answer : Result Value ProposeRefusal) → answer ≡ propose_held held h
+pub proposes : (meaning : Meanings) (held new : ReplayView) (h : ℕ) (answer : Result Value ProposeRefusal) → answer ≡ propose_held held h
     → new ≡ record held { rows = new.rows } → OnErr answer (new ≡ held)
     → OnOk answer (is_some (row_at new.rows h) ≡ true) → AreApart h held.rows new.rows
     → IfOk answer (λ v. (row : InstanceView) → row_at new.rows h ≡ Some row → (ring : Ring) (log : List Note) → only_rounds log ≡ true
     → MatchesLog ring row (log ++ Proposed v ∷ []))
-    → IsStep held (event.Propose h) (reply.Proposed answer) new
-proposes held new h (Ok v) is rest err there apart fresh entries matches = (
-  is ∙ answered held h entries matches,
+    → IsStep meaning held (event.Propose h) (reply.Proposed answer) new
+proposes meaning held new h (Ok v) is rest err there apart fresh entries matches = (
+  is ∙ answered meaning held h entries matches,
   refl,
-  subst (λ x. MatchesHistory x (entries ++ record { event = event.Propose h; reply = reply.Proposed (Ok v) } ∷ [])) (sym rest)
-      (opened_more held h entries matches v new.rows there apart fresh may.1 (ltb-false h held.floor may.0)),
+  subst (λ x. MatchesHistory meaning x (entries ++ record { event = event.Propose h; reply = reply.Proposed (Ok v) } ∷ [])) (sym rest)
+      (opened_more meaning held h entries matches v new.rows there apart fresh may.1 (ltb-false h held.floor may.0)),
 )
   where
     may : (nat_lt h held.floor ≡ false) × (is_some (row_at held.rows h) ≡ false)
     may = fits ((h == 0) || nat_lt max_height h) (nat_lt h held.floor) (is_some (row_at held.rows h))
         (nat_lt (length held.commits + max_ahead) h) v (take (batch_limit held.config.frames) held.pool) is
-proposes held new h (Err f) is rest err there apart fresh entries matches = (
-  is ∙ answered held h entries matches,
+proposes meaning held new h (Err f) is rest err there apart fresh entries matches = (
+  is ∙ answered meaning held h entries matches,
   refl,
-  subst (λ x. MatchesHistory x (entries ++ record { event = event.Propose h; reply = reply.Proposed (Err f) } ∷ [])) (sym err)
-      (refused held h entries matches f),
+  subst (λ x. MatchesHistory meaning x (entries ++ record { event = event.Propose h; reply = reply.Proposed (Err f) } ∷ [])) (sym err)
+      (refused meaning held h entries matches f),
 )

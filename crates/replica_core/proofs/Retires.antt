@@ -1,4 +1,5 @@
 -- The replica gives up the heights below a new floor.
+use Rattle.ledger_model.specs.Meanings.{Meanings}
 use Rattle.std.proofs.Common.{◌≡◌, ℕ, ◌+◌, ◌<◌, ◌≤◌, Bool, true, false, cond, inl, inr, List, [], ◌∷◌, ◌++◌, length, refl, sym, ap, subst}
 use Rattle.std.proofs.Common.{◌∙◌}
 use Rattle.std.proofs.Common.{arith}
@@ -27,7 +28,7 @@ use Rattle.replica_core.specs.Steps.{IsStep, retire_held, after_retire}
 use Rattle.replica_core.proofs.Histories.{pool_more, clock_more, mute_more, commits_stay, blocks_stay}
 use Rattle.replica_core.proofs.Quiet.{log_then, log_stays, unheard}
 
-module _ (held : ReplayView) (floor : ℕ) (entries : List Entry) (matches : MatchesHistory held entries) where
+module _ (meaning : Meanings) (held : ReplayView) (floor : ℕ) (entries : List Entry) (matches : MatchesHistory meaning held entries) where
   -- what is answered by what is held is what is answered by the history
   answered : retire_held held floor ≡ retire_reply held.config held.id entries floor
   unfolding retire_reply
@@ -38,9 +39,10 @@ module _ (held : ReplayView) (floor : ℕ) (entries : List Entry) (matches : Mat
       ∷ (nat_le floor n, kept.NotAbove) ∷ []) floor) (sym matches.floor)
 
   -- a floor that is refused
-  refused : (f : RetireRefusal) → MatchesHistory held (entries ++ record { event = event.Retire floor; reply = reply.Retired (Err f) } ∷ [])
+  refused : (f : RetireRefusal) → MatchesHistory meaning held
+      (entries ++ record { event = event.Retire floor; reply = reply.Retired (Err f) } ∷ [])
   unfolding notes_of
-  refused f = unheard held entries (record { event = event.Retire floor; reply = reply.Retired (Err f) }) matches refl refl refl
+  refused f = unheard meaning held entries (record { event = event.Retire floor; reply = reply.Retired (Err f) }) matches refl refl refl
       (λ n. refl) held.pool refl (λ h. refl)
 
   module _ (committed : floor ≤ length held.commits + 1) (above : held.floor < floor) where
@@ -52,16 +54,16 @@ module _ (held : ReplayView) (floor : ℕ) (entries : List Entry) (matches : Mat
     log_below : (h : ℕ) → h < floor
         → log_of held.config held.id h (entries ++ entry ∷ []) ≡ log_of held.config held.id h entries ++ Retired floor ∷ []
     unfolding notes_of
-    log_below h below = log_then held entries entry h
+    log_below h below = log_then meaning held entries entry h
         ∙ ap (λ b. log_of held.config held.id h entries ++ cond b (Retired floor ∷ []) []) (lt-ltb h floor below)
 
     -- the other logs are as before
     log_from : (h : ℕ) → floor ≤ h → log_of held.config held.id h (entries ++ entry ∷ []) ≡ log_of held.config held.id h entries
     unfolding notes_of
-    log_from h from = log_stays held entries entry h (ap (λ b. cond b (Retired floor ∷ []) []) (le-ltb h floor from))
+    log_from h from = log_stays meaning held entries entry h (ap (λ b. cond b (Retired floor ∷ []) []) (le-ltb h floor from))
 
     -- what is held then matches
-    retired_more : MatchesHistory (record held { floor = floor; rows = rows_from floor held.rows }) (entries ++ entry ∷ [])
+    retired_more : MatchesHistory meaning (record held { floor = floor; rows = rows_from floor held.rows }) (entries ++ entry ∷ [])
     retired_more = record {
       clock = clock_more entries entry ∙ (let c = matches.clock in omega (arith, c));
       clocks = λ h. elim (cases_lt h floor) [
@@ -80,7 +82,7 @@ module _ (held : ReplayView) (floor : ℕ) (entries : List Entry) (matches : Mat
           ∙ ap is_some (closed_by (log_of held.config held.id h entries) (Retired floor ∷ []) refl);
       floor = floor_of-snoc entries entry;
       low = committed;
-      pool = pool_more held.config held.id entries entry ∙ matches.pool;
+      pool = pool_more meaning held.config held.id entries entry ∙ matches.pool;
       commits = commits_stay held.config held.id entries entry matches.blocks refl ∙ matches.commits;
       machine = matches.machine;
       blocks = blocks_stay held.config held.id entries entry matches.blocks refl;
@@ -88,10 +90,10 @@ module _ (held : ReplayView) (floor : ℕ) (entries : List Entry) (matches : Mat
     }
 
 -- the floor is raised, or refused
-pub retires : (held new : ReplayView) (floor : ℕ) (answer : Result ℕ RetireRefusal) → answer ≡ retire_held held floor
-    → new ≡ after_retire held answer → IsStep held (event.Retire floor) (reply.Retired answer) new
-retires held new floor (Ok f) is after entries matches =
-    let lawful = is ∙ answered held floor entries matches in
+pub retires : (meaning : Meanings) (held new : ReplayView) (floor : ℕ) (answer : Result ℕ RetireRefusal) → answer ≡ retire_held held floor
+    → new ≡ after_retire held answer → IsStep meaning held (event.Retire floor) (reply.Retired answer) new
+retires meaning held new floor (Ok f) is after entries matches =
+    let lawful = is ∙ answered meaning held floor entries matches in
     let (same, raised) = new_floor held.config held.id entries floor f lawful in
     let above = raised.above in
     let committed = raised.committed in
@@ -99,14 +101,15 @@ retires held new floor (Ok f) is after entries matches =
     let blocks = ap length matches.commits in (
       lawful,
       refl,
-      subst (λ x. MatchesHistory x (entries ++ record { event = event.Retire floor; reply = reply.Retired (Ok f) } ∷ [])) (sym after)
-          (subst (λ n. MatchesHistory (record held { floor = n; rows = rows_from n held.rows })
+      subst (λ x. MatchesHistory meaning x (entries ++ record { event = event.Retire floor; reply = reply.Retired (Ok f) } ∷ []))
+          (sym after)
+          (subst (λ n. MatchesHistory meaning (record held { floor = n; rows = rows_from n held.rows })
           (entries ++ record { event = event.Retire floor; reply = reply.Retired (Ok n) } ∷ [])) (sym same)
-          (retired_more held floor entries matches (omega (arith, same, committed, blocks)) (omega (arith, same, above, was)))),
+          (retired_more meaning held floor entries matches (omega (arith, same, committed, blocks)) (omega (arith, same, above, was)))),
     )
-retires held new floor (Err f) is after entries matches = (
-  is ∙ answered held floor entries matches,
+retires meaning held new floor (Err f) is after entries matches = (
+  is ∙ answered meaning held floor entries matches,
   refl,
-  subst (λ x. MatchesHistory x (entries ++ record { event = event.Retire floor; reply = reply.Retired (Err f) } ∷ [])) (sym after)
-      (refused held floor entries matches f),
+  subst (λ x. MatchesHistory meaning x (entries ++ record { event = event.Retire floor; reply = reply.Retired (Err f) } ∷ [])) (sym after)
+      (refused meaning held floor entries matches f),
 )

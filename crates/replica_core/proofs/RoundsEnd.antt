@@ -1,4 +1,5 @@
 -- The end of a round, over all open heights: it is lawful and signed, and the state afterwards matches the longer history.
+use Rattle.ledger_model.specs.Meanings.{Meanings}
 use Rattle.std.proofs.Common.{◌≡◌, ℕ, ◌+◌, ◌<◌, ◌≤◌, Bool, true, false, List, [], ◌∷◌, ◌++◌, refl, sym, ap, subst, ◌∙◌, arith}
 use Rattle.std.specs.Prelude.{nat_eq, map, Option, Some, None, is_some, ◌||◌, if◌then◌else◌}
 use Rattle.std.specs.List.{AllByRecursion}
@@ -32,8 +33,9 @@ use Rattle.replica_core.proofs.UnopenedEnds.{no_locks, nothing_made, may_nothing
 use Rattle.replica_core.proofs.OpenEnds.{locks_alone, closes_there, made_is, may_there}
 use Rattle.replica_core.proofs.RoundNotes.{end_entry, round_notes, notes_are, clock_then, mute_then}
 
-module _ (held : ReplayView) (mute : Bool) (ms : List RoundStatement) (entries : List Entry) (is_held : IsWithinLimits held)
-    (matches : MatchesHistory held entries)
+module _ (meaning : Meanings) (held : ReplayView) (mute : Bool) (ms : List RoundStatement) (entries : List Entry)
+    (is_held : IsWithinLimits held)
+    (matches : MatchesHistory meaning held entries)
     (are_made : AreMade held.ring mute (held.clock + 1) held.rows ms) where
   -- the round that opens, and the answer to the end of the one before
   abbrev c : ℕ
@@ -59,7 +61,7 @@ module _ (held : ReplayView) (mute : Bool) (ms : List RoundStatement) (entries :
   -- what a log goes on with
   log_is : (h : ℕ) (made : List SignedStatement) → made_at h ≡ made → log_with h ≡ log_at h ++ round_notes (log_at h) c made
   log_is h made is =
-      log_then held entries (end_entry end) h
+      log_then meaning held entries (end_entry end) h
       ∙ ap (λ ns. log_at h ++ ns) (notes_are held.config held.id h (log_at h) held.clock (matches.clocks h) end made is)
 
   -- whatever is made at an open height, its frames are right
@@ -73,7 +75,7 @@ module _ (held : ReplayView) (mute : Bool) (ms : List RoundStatement) (entries :
 
   module _ (h : ℕ) (none : row_at held.rows h ≡ None) where
     closed_here : open_of (log_at h) ≡ None
-    closed_here = closed_there held entries matches h none
+    closed_here = closed_there meaning held entries matches h none
 
     none_sent : statements_sent h end ≡ []
     unfolding statements_sent
@@ -171,16 +173,16 @@ module _ (held : ReplayView) (mute : Bool) (ms : List RoundStatement) (entries :
 
   -- ---- what is kept then
 
-  matches_then : (held.mute ≡ true → mute ≡ true) → MatchesHistory (after_end held mute ms) (entries ++ end_entry end ∷ [])
+  matches_then : (held.mute ≡ true → mute ≡ true) → MatchesHistory meaning (after_end held mute ms) (entries ++ end_entry end ∷ [])
   matches_then still = record {
     clock = clock_more entries (end_entry end) ∙ ap (λ n. n + 1) matches.clock;
     clocks = λ h. ap clock_of (log_is h (made_at h) refl) ∙ clock_then (log_at h) c (made_at h) ∙ ap (λ n. n + 1) (matches.clocks h);
     opened = λ h new found. opened h new found (row_at held.rows h) refl;
     unopened = λ h from gone. unopened h from gone (row_at held.rows h) refl;
-    retired = λ h below. closed_with h (none_below held entries matches h below);
+    retired = λ h below. closed_with h (none_below meaning held entries matches h below);
     floor = floor_of-snoc entries (end_entry end) ∙ matches.floor;
     low = matches.low;
-    pool = pool_more held.config held.id entries (end_entry end) ∙ matches.pool;
+    pool = pool_more meaning held.config held.id entries (end_entry end) ∙ matches.pool;
     commits = commits_stay held.config held.id entries (end_entry end) matches.blocks refl ∙ matches.commits;
     machine = matches.machine;
     blocks = blocks_stay held.config held.id entries (end_entry end) matches.blocks refl;
@@ -213,12 +215,13 @@ module _ (held : ReplayView) (mute : Bool) (ms : List RoundStatement) (entries :
 
 -- whatever may be made at each open height makes it a lawful and signed end
 pub rounds_end : RoundsEnd
-rounds_end held mute ms entries is_held early matches still are_made = (
+rounds_end meaning held mute ms entries is_held early matches still are_made = (
   record {
-    lawful = lawful held mute ms entries is_held matches are_made still;
-    signed = all_signed held.config held.ring mute (held.clock + 1) held.rows ms (each_sends held mute ms entries is_held matches are_made)
+    lawful = lawful meaning held mute ms entries is_held matches are_made still;
+    signed = all_signed held.config held.ring mute (held.clock + 1) held.rows ms
+        (each_sends meaning held mute ms entries is_held matches are_made)
         are_made;
-    matches = matches_then held mute ms entries is_held matches are_made still;
+    matches = matches_then meaning held mute ms entries is_held matches are_made still;
   },
-  held_then held mute ms entries is_held matches are_made early,
+  held_then meaning held mute ms entries is_held matches are_made early,
 )

@@ -1,4 +1,5 @@
 -- The frames of a lawful and signed round end are those of what they say was made, and each open height may make that.
+use Rattle.ledger_model.specs.Meanings.{Meanings}
 use Rattle.std.proofs.Common.{◌≡◌, ℕ, ◌+◌, inl, inr, Bool, true, false, List, [], ◌∷◌, ◌++◌, refl, sym, ap, subst, ◌∙◌}
 use Rattle.std.specs.Prelude.{nat_eq, map, Some, None, is_some, if◌then◌else◌}
 use Rattle.std.specs.List.{flat_map, list_all, AllByRecursion}
@@ -65,8 +66,8 @@ those_signed ring h ss all = all_from (is_all_signed ring) (of_height h ss)
 those_frames : (h : ℕ) (ss : List SignedStatement) → AllByRecursion IsFrame ss → AllByRecursion IsFrame (of_height h ss)
 those_frames h ss all = each_from IsFrame (of_height h ss) (λ s has. each_has IsFrame ss s all (filter_has _ ss s has).0)
 
-module _ (held : ReplayView) (entries : List Entry) (end : RoundEnded) (is_held : IsWithinLimits held)
-    (matches : MatchesHistory held entries) (keeps : KeepsEnd held entries end)
+module _ (meaning : Meanings) (held : ReplayView) (entries : List Entry) (end : RoundEnded) (is_held : IsWithinLimits held)
+    (matches : MatchesHistory meaning held entries) (keeps : KeepsEnd meaning held entries end)
     (spelled : end.mute ≡ false → sends_locks_on (held.clock + 1) held.rows ≡ false → AllByRecursion IsFrame (statements_shown end.frames)) where
   abbrev c : ℕ
   c = held.clock + 1
@@ -153,8 +154,8 @@ module _ (held : ReplayView) (entries : List Entry) (end : RoundEnded) (is_held 
 
   none_unopened : (h : ℕ) → row_at held.rows h ≡ None → of_height h ss ≡ []
   none_unopened h none = elim (cases_Bool (nat_eq (place_of c) release_place)) [
-    | inl last ↦ locks_sent h last ∙ no_locks (log_at h) (closed_there held entries matches h none)
-    | inr early ↦ none_made_of (log_at h) (closed_there held entries matches h none) held.config held.id h end.mute (of_height h ss)
+    | inl last ↦ locks_sent h last ∙ no_locks (log_at h) (closed_there meaning held entries matches h none)
+    | inr early ↦ none_made_of (log_at h) (closed_there meaning held entries matches h none) held.config held.id h end.mute (of_height h ss)
         (own_ack held.config held.id h (log_at h) c end.mute) (may_make h early)
   ]
 
@@ -183,9 +184,9 @@ module _ (held : ReplayView) (entries : List Entry) (end : RoundEnded) (is_held 
       (all_right held.config held.ring end.mute c held.rows shown_all.ms sends_all shown_all.made) lawful.frames same_sent
 
 pub ends_show : EndsShow
-ends_show held entries end is_held early matches keeps spelled =
-    let shown = shown_all held entries end is_held matches keeps spelled in
-    let is = sym (made_is_shown held entries end is_held matches keeps spelled) in (
+ends_show meaning held entries end is_held early matches keeps spelled =
+    let shown = shown_all meaning held entries end is_held matches keeps spelled in
+    let is = sym (made_is_shown meaning held entries end is_held matches keeps spelled) in (
       subst (AreMade held.ring end.mute (held.clock + 1) held.rows) is shown.made,
-      subst (ShowsFrames held end) is (alike held entries end is_held matches keeps spelled),
+      subst (ShowsFrames held end) is (alike meaning held entries end is_held matches keeps spelled),
     )

@@ -1,4 +1,5 @@
 -- What the frames of a round end say was made, and whether the end continues the replay.
+use Rattle.ledger_model.specs.Meanings.{Meanings}
 use Rattle.std.proofs.Common.{◌≡◌, ℕ, ◌+◌, ◌<◌, inl, inr, Bool, true, false, List, [], ◌∷◌, ◌++◌, length, refl, sym, ap, subst, ◌∙◌, arith}
 use Rattle.std.specs.Prelude.{nat_eq, map, None, Ok, Err, is_some}
 use Rattle.std.specs.List.{list_any, AllByRecursion}
@@ -98,7 +99,7 @@ all_of_it m c (row ∷ rows) (x ∷ xs) endings all =
     let rest : map (λ x. x.ending) xs ≡ map (λ row. opened_effects row c) rows = cc in
     rw all.0 (ap (λ ms. m ∷ ms) (all_of_it m c rows xs rest all.1))
 
-module _ (held : ReplayView) (end : RoundEnded) (is_held : IsWithinLimits held) (early : held.clock < last_round) where
+module _ (meaning : Meanings) (held : ReplayView) (end : RoundEnded) (is_held : IsWithinLimits held) (early : held.clock < last_round) where
   abbrev c : ℕ
   c = held.clock + 1
 
@@ -106,17 +107,17 @@ module _ (held : ReplayView) (end : RoundEnded) (is_held : IsWithinLimits held) 
   ss = statements_shown end.frames
 
   -- the frames of an end that keeps a replay one spell statements
-  pub are_spelled : (entries : List Entry) → KeepsEnd held entries end → AreSpelled end.frames
+  pub are_spelled : (entries : List Entry) → KeepsEnd meaning held entries end → AreSpelled end.frames
   are_spelled entries keeps = each_weaker (IsSentRight held.config) (λ f. is_some (reading f.frame) ≡ true) end.frames
       (λ f right. ap is_some right.spelled) keeps.lawful.1.frames
 
   -- a mute replica makes nothing
-  pub shown_mute : (ms : List RoundStatement) → end.mute ≡ true → ms ≡ all_mute held.rows → IsShown held end ms
-  shown_mute ms says is = subst (IsShown held end) (sym is) (record {
+  pub shown_mute : (ms : List RoundStatement) → end.mute ≡ true → ms ≡ all_mute held.rows → IsShown meaning held end ms
+  shown_mute ms says is = subst (IsShown meaning held end) (sym is) (record {
     made = λ entries matches. subst (λ b. AreMade held.ring b c held.rows (all_mute held.rows)) (sym says)
         (none_made held.ring c held.rows);
     frames = λ entries matches keeps.
-        let shows = ends_show held entries end is_held early matches keeps (λ loud. absurd (cc (sym says ∙ loud))) in
+        let shows = ends_show meaning held entries end is_held early matches keeps (λ loud. absurd (cc (sym says ∙ loud))) in
         subst (λ b. ShowsFrames held end (made_shown b c held.rows ss)) says shows.1;
     own = mute_own held.config held.id held.rows;
     count = length-map held.rows (λ row. made.Mute);
@@ -124,13 +125,14 @@ module _ (held : ReplayView) (end : RoundEnded) (is_held : IsWithinLimits held) 
 
   module _ (loud : end.mute ≡ false) where
     -- nor does one that sends locks on
-    pub shown_release : (ms : List RoundStatement) → sends_locks_on c held.rows ≡ true → ms ≡ all_unsent held.rows → IsShown held end ms
-    shown_release ms some is = subst (IsShown held end) (sym is) (record {
+    pub shown_release : (ms : List RoundStatement) → sends_locks_on c held.rows ≡ true → ms ≡ all_unsent held.rows
+        → IsShown meaning held end ms
+    shown_release ms some is = subst (IsShown meaning held end) (sym is) (record {
       made = λ entries matches.
           subst (λ b. AreMade held.ring b c held.rows (all_unsent held.rows)) (sym loud)
           (unsent_made held.ring c held.rows (release_last c held.rows some));
       frames = λ entries matches keeps.
-          let shows = ends_show held entries end is_held early matches keeps (λ same none. absurd (cc (sym some ∙ none))) in
+          let shows = ends_show meaning held entries end is_held early matches keeps (λ same none. absurd (cc (sym some ∙ none))) in
           rw some at (subst (λ b. ShowsFrames held end (made_shown b c held.rows ss)) loud shows.1);
       own = unsent_own held.config held.id held.rows;
       count = length-map held.rows (λ row. made.Unsent);
@@ -138,11 +140,11 @@ module _ (held : ReplayView) (end : RoundEnded) (is_held : IsWithinLimits held) 
 
     module _ (none_on : sends_locks_on c held.rows ≡ false) (frames : AllByRecursion IsFrame ss) where
       -- what the frames show of each height
-      shows_each : (entries : List Entry) → MatchesHistory held entries → KeepsEnd held entries end
+      shows_each : (entries : List Entry) → MatchesHistory meaning held entries → KeepsEnd meaning held entries end
           → AreMade held.ring false c held.rows (made_each (map (λ row. row.height) held.rows) ss)
           × ShowsFrames held end (made_each (map (λ row. row.height) held.rows) ss)
       shows_each entries matches keeps =
-          let shows = ends_show held entries end is_held early matches keeps (λ same none. frames) in
+          let shows = ends_show meaning held entries end is_held early matches keeps (λ same none. frames) in
           let both = subst (λ b. AreMade held.ring b c held.rows (made_shown b c held.rows ss)
           × ShowsFrames held end (made_shown b c held.rows ss)) loud shows in
           rw none_on at both
@@ -150,7 +152,8 @@ module _ (held : ReplayView) (end : RoundEnded) (is_held : IsWithinLimits held) 
       -- it may be made
       pub shown_each : (ms : List RoundStatement) → ms ≡ made_each (map (λ row. row.height) held.rows) ss → length ms ≡ length held.rows
           → AllByRecursion (IsOwnMade held.config held.id) ms
-          → ((entries : List Entry) → MatchesHistory held entries → AreMade held.ring false c held.rows ms) → IsShown held end ms
+          → ((entries : List Entry) → MatchesHistory meaning held entries → AreMade held.ring false c held.rows ms)
+          → IsShown meaning held end ms
       shown_each ms is count own may = record {
         made = λ entries matches. subst (λ b. AreMade held.ring b c held.rows ms) (sym loud) (may entries matches);
         frames = λ entries matches keeps. subst (ShowsFrames held end) (sym is) (shows_each entries matches keeps).1;
@@ -160,7 +163,8 @@ module _ (held : ReplayView) (end : RoundEnded) (is_held : IsWithinLimits held) 
 
       -- or it may not
       pub none_each : (ms : List RoundStatement) → ms ≡ made_each (map (λ row. row.height) held.rows) ss
-          → ((entries : List Entry) → MatchesHistory held entries → AreMade held.ring false c held.rows ms → ⊥) → KeepsNone held end
+          → ((entries : List Entry) → MatchesHistory meaning held entries → AreMade held.ring false c held.rows ms → ⊥)
+          → KeepsNone meaning held end
       none_each ms is not entries matches keeps =
           not entries matches (subst (AreMade held.ring false c held.rows) (sym is) (shows_each entries matches keeps).0)
 
@@ -168,21 +172,22 @@ module _ (held : ReplayView) (end : RoundEnded) (is_held : IsWithinLimits held) 
 
   -- the frames show what may be made: the frames that it makes are compared with those of the end
   pub compared_end : (new : ReplayView) (ms : List RoundStatement) (due : RoundEnded) (kept : Bool)
-      → (held.mute ≡ true → end.mute ≡ true) → IsShown held end ms → due ≡ round_ended held end.mute ms
+      → (held.mute ≡ true → end.mute ≡ true) → IsShown meaning held end ms → due ≡ round_ended held end.mute ms
       → new ≡ after_end held end.mute ms → (kept ≡ true → due.frames ≡ end.frames) → (AreShownAlike due.frames end.frames → kept ≡ true)
-      → IsFollowed held event.RoundEnd (reply.RoundEnded (Ok end)) kept new
+      → IsFollowed meaning held event.RoundEnd (reply.RoundEnded (Ok end)) kept new
   compared_end new ms due kept still shown is after same only = record {
     exact = λ entries matches. (
       λ yes.
-          let ends = (rounds_end held end.mute ms entries is_held early matches still (shown.made entries matches)).0 in
-          subst (λ e. KeepsReplay held entries event.RoundEnd (reply.RoundEnded (Ok e))) (due_is yes)
+          let ends = (rounds_end meaning held end.mute ms entries is_held early matches still (shown.made entries matches)).0 in
+          subst (λ e. KeepsReplay meaning held entries event.RoundEnd (reply.RoundEnded (Ok e))) (due_is yes)
           (record { lawful = (subst (λ n. n < last_round) (sym matches.clock) early, ends.lawful); signed = ends.signed }),
       λ keeps. only (subst (λ e. AreShownAlike e.frames end.frames) (sym is) (shown.frames entries matches keeps)),
     );
     matches = λ yes entries matches.
-        let ends = (rounds_end held end.mute ms entries is_held early matches still (shown.made entries matches)).0 in
-        subst (λ n. MatchesHistory n (entries ++ record { event = event.RoundEnd; reply = reply.RoundEnded (Ok end) } ∷ [])) (sym after)
-        (subst (λ e. MatchesHistory (after_end held end.mute ms)
+        let ends = (rounds_end meaning held end.mute ms entries is_held early matches still (shown.made entries matches)).0 in
+        subst (λ n. MatchesHistory meaning n (entries ++ record { event = event.RoundEnd; reply = reply.RoundEnded (Ok end) } ∷ []))
+        (sym after)
+        (subst (λ e. MatchesHistory meaning (after_end held end.mute ms)
         (entries ++ record { event = event.RoundEnd; reply = reply.RoundEnded (Ok e) } ∷ [])) (due_is yes) ends.matches);
   }
     where
@@ -192,32 +197,32 @@ module _ (held : ReplayView) (end : RoundEnded) (is_held : IsWithinLimits held) 
           ap (λ fs. record { mute = end.mute; frames = fs }) frames
 
 -- a mute replica that says it is not is refused
-pub speaks_again : (held : ReplayView) (end : RoundEnded) → held.mute ≡ true → end.mute ≡ false
-    → IsFollowed held event.RoundEnd (reply.RoundEnded (Ok end)) false held
-speaks_again held end was says = refused held held event.RoundEnd (reply.RoundEnded (Ok end))
+pub speaks_again : (meaning : Meanings) (held : ReplayView) (end : RoundEnded) → held.mute ≡ true → end.mute ≡ false
+    → IsFollowed meaning held event.RoundEnd (reply.RoundEnded (Ok end)) false held
+speaks_again meaning held end was says = refused meaning held held event.RoundEnd (reply.RoundEnded (Ok end))
     (λ entries matches keeps. let still = keeps.lawful.1.mute (matches.mute ∙ was) in absurd (cc (sym says ∙ still)))
 
 -- ---- the last round
 
 -- no round is left
-pub ends_over : (held : ReplayView) (last : LastRound) (kept : Bool) → (kept ≡ true → held.clock ≡ last_round)
+pub ends_over : (meaning : Meanings) (held : ReplayView) (last : LastRound) (kept : Bool) → (kept ≡ true → held.clock ≡ last_round)
     → (kept ≡ false → held.clock < last_round)
-    → IsFollowed held event.RoundEnd (reply.RoundEnded (Err last)) kept held
-ends_over held last true is goes_on = record {
+    → IsFollowed meaning held event.RoundEnd (reply.RoundEnded (Err last)) kept held
+ends_over meaning held last true is goes_on = record {
   exact = λ entries matches. (
-    λ yes. (let step = over held (is refl) entries matches in record { lawful = step.0; signed = refl }),
+    λ yes. (let step = over meaning held (is refl) entries matches in record { lawful = step.0; signed = refl }),
     λ keeps. refl,
   );
-  matches = λ yes entries matches. (over held (is refl) entries matches).2;
+  matches = λ yes entries matches. (over meaning held (is refl) entries matches).2;
 }
-ends_over held last false is goes_on =
-    refused held held event.RoundEnd (reply.RoundEnded (Err last))
+ends_over meaning held last false is goes_on =
+    refused meaning held held event.RoundEnd (reply.RoundEnded (Err last))
     (λ entries matches keeps. let left = goes_on refl in let over = keeps.lawful in let now =
     matches.clock in absurd (omega (arith, left, over, now)))
 
 -- a round that ends after the last is refused
-pub ends_late : (held : ReplayView) (end : RoundEnded) → held.clock ≡ last_round
-    → IsFollowed held event.RoundEnd (reply.RoundEnded (Ok end)) false held
-ends_late held end is =
-    refused held held event.RoundEnd (reply.RoundEnded (Ok end))
+pub ends_late : (meaning : Meanings) (held : ReplayView) (end : RoundEnded) → held.clock ≡ last_round
+    → IsFollowed meaning held event.RoundEnd (reply.RoundEnded (Ok end)) false held
+ends_late meaning held end is =
+    refused meaning held held event.RoundEnd (reply.RoundEnded (Ok end))
     (λ entries matches keeps. let left = keeps.lawful.0 in let now = matches.clock in absurd (omega (arith, left, is, now)))

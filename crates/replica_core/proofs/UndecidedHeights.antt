@@ -1,4 +1,5 @@
 -- The open heights at which nothing is decided: those of the rows are those of each matched history.
+use Rattle.ledger_model.specs.Meanings.{Meanings}
 use Rattle.std.proofs.Common.{◌≡◌, ℕ, zero, suc, ◌+◌, ◌<◌, ◌≤◌, Bool, true, false, cond, inl, inr, List, [], ◌∷◌, refl, sym, ap, ◌∙◌, arith}
 use Rattle.std.specs.Prelude.{◌==◌, ◌&&◌, Option, Some, None, is_some, filter, map}
 use Rattle.std.specs.Option.{is_none}
@@ -71,18 +72,21 @@ in_range (x ∷ xs) test a (suc n) ascend low high same = elim (cases_Bool (x.he
     higher : (k a : ℕ) → (k == a) ≡ false → a ≤ k → a < k
     higher k a other le = grind (arith)
 
-module _ (held : ReplayView) (entries : List Entry) (matches : MatchesHistory held entries) (one : IsOneCluster held) where
+module _ (meaning : Meanings) (held : ReplayView) (entries : List Entry) (matches : MatchesHistory meaning held entries)
+    (one : IsOneCluster held) where
   -- the test of a height is that of its row
   tested : (h : ℕ) → is_undecided held.config held.id entries h ≡ open_undecided (row_at held.rows h)
   tested h = by (row_at held.rows h) refl
     where
       by : (o : Option InstanceView) → row_at held.rows h ≡ o → is_undecided held.config held.id entries h ≡ open_undecided o
       by (Some row) is =
-          ap (λ b. b && is_none (decided_at held.config held.id entries h)) (sym (opened_there held entries matches h) ∙ ap is_some is)
+          ap (λ b. b && is_none (decided_at held.config held.id entries h))
+          (sym (opened_there meaning held entries matches h) ∙ ap is_some is)
           ∙ ap is_none (sym ((matches.opened h row is).decided
           ∙ ap (λ c. decided_of c (log_of held.config held.id h entries)) (one h row is)))
       by None is =
-          ap (λ b. b && is_none (decided_at held.config held.id entries h)) (sym (opened_there held entries matches h) ∙ ap is_some is)
+          ap (λ b. b && is_none (decided_at held.config held.id entries h))
+          (sym (opened_there meaning held entries matches h) ∙ ap is_some is)
 
   -- the same up to any height
   up_to : (n : ℕ) → AreAscending held.rows → ((h : ℕ) (row : InstanceView) → row_at held.rows h ≡ Some row → h ≤ n)

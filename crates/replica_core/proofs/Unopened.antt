@@ -1,4 +1,5 @@
 -- A height that has no row isn't open: its log contains only rounds, or the height was retired.
+use Rattle.ledger_model.specs.Meanings.{Meanings}
 use Rattle.std.proofs.Common.{◌≡◌, ℕ, zero, suc, ◌<◌, ◌≤◌, ◌/◌, Bool, true, false, inl, inr, List, [], ◌∷◌, length, refl, sym, ap, ◌∙◌}
 use Rattle.ledger_model.specs.Rounds.{rounds_in_phase}
 use Rattle.std.specs.Prelude.{nat_lt, ◌+◌, Option, Some, None, is_some, if◌then◌else◌}
@@ -41,7 +42,7 @@ not_there : (o : Option Value) → is_some o ≡ false → o ≡ None
 not_there None is = refl
 not_there (Some v) is = cc
 
-module _ (held : ReplayView) (entries : List Entry) (matches : MatchesHistory held entries) where
+module _ (meaning : Meanings) (held : ReplayView) (entries : List Entry) (matches : MatchesHistory meaning held entries) where
   abbrev log_there : ℕ → List Note
   log_there h = log_of held.config held.id h entries
 

@@ -1,4 +1,5 @@
 -- The end of a round at a replica that makes what it chooses, and at a mute replica.
+use Rattle.ledger_model.specs.Meanings.{Meanings}
 use Rattle.std.specs.Prelude.{◌≡◌, ℕ, ◌+◌, ◌<◌, Bool, true, false, List, map, Some, Ok, slice_get}
 use Rattle.std.specs.List.{AllByRecursion}
 use Rattle.ledger_model.specs.Limits.{last_round}
@@ -37,16 +38,16 @@ end_reply held mute ms = reply.RoundEnded (Ok (round_ended held mute ms))
 -- the end of a round at a mute replica is a step, and uses no leaf
 abbrev pub MuteEnds : Type 0
 MuteEnds =
-    (held : ReplayView) → IsWithinLimits held → held.clock < last_round
-    → IsStep held event.RoundEnd (end_reply held true (all_mute held.rows)) (after_end held true (all_mute held.rows))
+    (meaning : Meanings) (held : ReplayView) → IsWithinLimits held → held.clock < last_round
+    → IsStep meaning held event.RoundEnd (end_reply held true (all_mute held.rows)) (after_end held true (all_mute held.rows))
     × ((keys : SignerView) → UsesLeaves keys held.clock (end_reply held true (all_mute held.rows)) keys)
 
 -- the end of a round at which the replica makes what it chooses, signed with the next leaves of its key in the ring, is
 -- a step, and uses a leaf for each statement that is due
 abbrev pub SignedEnds : Type 0
 SignedEnds =
-    (held : ReplayView) (keys : SignerView) (ms : List RoundStatement)
+    (meaning : Meanings) (held : ReplayView) (keys : SignerView) (ms : List RoundStatement)
     → IsWithinLimits held → held.clock < last_round → held.mute ≡ false → slice_get held.ring held.id ≡ Some (public_key_of keys.secret)
     → SignsFrom keys.secret keys.used (held.clock + 1) held.rows ms → AllByRecursion (IsFrameUnder (public_key_of keys.secret)) ms
-    → IsStep held event.RoundEnd (end_reply held false ms) (after_end held false ms)
+    → IsStep meaning held event.RoundEnd (end_reply held false ms) (after_end held false ms)
     × UsesLeaves keys held.clock (end_reply held false ms) (record keys { used = keys.used + due (held.clock + 1) held.rows })

@@ -1,4 +1,5 @@
 -- What a replica's core returns about itself: its blocks by height, its application, and what its floor says of a history.
+use Rattle.ledger_model.specs.Meanings.{Meanings}
 use Rattle.std.specs.Prelude.{◌≡◌, ℕ, ◌-◌, ◌==◌, ◌<◌, Bool, false, ◌&&◌, List, length, map, filter, Option, None, slice_get}
 use Rattle.std.specs.Prelude.{if◌then◌else◌}
 use Rattle.std.specs.Option.{is_none}
@@ -20,8 +21,8 @@ abbrev pub block_at : List Value → ℕ → Option Value
 block_at commits h = if h == 0 then None else slice_get commits (h - 1)
 
 -- what the application returns for Info after it ran alone on the batches
-abbrev pub info_reply : AppKind → List Value → Info
-info_reply kind batches = record { height = length batches; hash = hash_of kind batches }
+abbrev pub info_reply : Meanings → AppKind → List Value → Info
+info_reply meaning kind batches = record { height = length batches; hash = hash_of meaning kind batches }
 
 -- no height below the floor is open after these entries
 abbrev pub AreClosed : Config → ℕ → List Entry → ℕ → Type 0

@@ -1,4 +1,5 @@
 -- The end of a round that is prepared: what each open height makes, the reply, and the core state after it.
+use Rattle.ledger_model.specs.Meanings.{Meanings}
 use Rattle.std.specs.Prelude.{◌≡◌, ℕ, ◌+◌, ◌<◌, ◌≤◌, Bool, List, map, Result, Ok, Err}
 use Rattle.std.specs.List.{AllByRecursion}
 use Rattle.ledger_model.specs.Limits.{last_round}
@@ -41,9 +42,9 @@ pub record IsPreparedFor (held : ReplayView) (prepared : PreparedView) : Type 0 
   pub reply : prepared.ended ≡ round_ended held prepared.ended.mute (made_by_closings prepared.closings)
 
 -- the end was prepared for the core's state, is a step, and uses the leaves that are used now
-pub record IsEndPrepared (old : CoreView) (prepared : PreparedView) (keys : SignerView) : Type 0 where
+pub record IsEndPrepared (meaning : Meanings) (old : CoreView) (prepared : PreparedView) (keys : SignerView) : Type 0 where
   pub ready : IsPreparedFor old.replay prepared
-  pub step : IsStep old.replay event.RoundEnd (reply.RoundEnded (Ok prepared.ended)) (after_prepared old.replay prepared)
+  pub step : IsStep meaning old.replay event.RoundEnd (reply.RoundEnded (Ok prepared.ended)) (after_prepared old.replay prepared)
   pub leaves : UsesLeaves old.keys old.replay.clock (reply.RoundEnded (Ok prepared.ended)) keys
 
 -- only leaves were used, at most this many

@@ -1,4 +1,5 @@
 -- What a replica derives from its history, and when it matches a history.
+use Rattle.ledger_model.specs.Meanings.{Meanings}
 use Rattle.std.specs.Prelude.{◌≡◌, ℕ, ◌+◌, ◌<◌, ◌≤◌, Bool, true, false, is_some, List, [], length, Some, None}
 use Rattle.ledger_model.specs.Limits.{max_height, last_round}
 use Rattle.ledger_model.specs.declared.config.Config.{Config}
@@ -29,8 +30,8 @@ pub record ReplayView : Type 0 where
   pub mute : Bool
 
 -- the state before the first event
-abbrev pub new_replay : Config → ℕ → Ring → ReplayView
-new_replay config id ring = record {
+abbrev pub new_replay : Meanings → Config → ℕ → Ring → ReplayView
+new_replay meaning config id ring = record {
   config = config;
   id = id;
   ring = ring;
@@ -38,7 +39,7 @@ new_replay config id ring = record {
   rows = [];
   pool = [];
   commits = [];
-  machine = run config.kind [];
+  machine = run meaning config.kind [];
   clock = 0;
   mute = false;
 }
@@ -67,7 +68,7 @@ abbrev pub AreDecided : Config → ℕ → List Entry → Type 0
 AreDecided config id entries = (h : ℕ) → 1 ≤ h → h < 1 + executed entries → is_some (decided_at config id entries h) ≡ true
 
 -- the state is what the history makes of it
-pub record MatchesHistory (held : ReplayView) (entries : List Entry) : Type 0 where
+pub record MatchesHistory (meaning : Meanings) (held : ReplayView) (entries : List Entry) : Type 0 where
   pub clock : clock_at entries ≡ held.clock
   pub clocks : (h : ℕ) → clock_of (log_of held.config held.id h entries) ≡ held.clock
   -- each open height matches its log; every other log from the floor on contains only rounds, and no height below the floor is open
@@ -77,9 +78,9 @@ pub record MatchesHistory (held : ReplayView) (entries : List Entry) : Type 0 wh
   pub retired : (h : ℕ) → h < held.floor → is_open (log_of held.config held.id h entries) ≡ false
   pub floor : floor_of entries ≡ held.floor
   pub low : held.floor ≤ length held.commits + 1
-  pub pool : pool_of held.config held.id entries ≡ held.pool
+  pub pool : pool_of meaning held.config held.id entries ≡ held.pool
   pub commits : commits_of held.config held.id entries ≡ held.commits
   -- the machine is the application run alone on the committed batches
-  pub machine : held.machine ≡ run held.config.kind held.commits
+  pub machine : held.machine ≡ run meaning held.config.kind held.commits
   pub blocks : AreDecided held.config held.id entries
   pub mute : is_mute entries ≡ held.mute

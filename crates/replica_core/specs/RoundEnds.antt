@@ -1,4 +1,5 @@
 -- What a round end makes and sends, over all open heights.
+use Rattle.ledger_model.specs.Meanings.{Meanings}
 use Rattle.std.specs.Prelude.{◌≡◌, ℕ, ◌+◌, ◌<◌, Bool, true, IsTrue, MatchBool, List, [], ◌∷◌, ◌++◌, map, Option, Some, None, is_some, Ok}
 use Rattle.std.specs.Prelude.{if◌then◌else◌}
 use Rattle.ledger_model.specs.Limits.{last_round}
@@ -78,19 +79,20 @@ abbrev pub after_end : ReplayView → Bool → List RoundStatement → ReplayVie
 after_end held mute ms = record held { rows = closed_each (held.clock + 1) held.rows ms; clock = held.clock + 1; mute = mute }
 
 -- the round end is lawful and signed after the history, and the state after it matches the longer history
-pub record IsRoundEnd (held : ReplayView) (mute : Bool) (ms : List RoundStatement) (entries : List Entry) : Type 0 where
+pub record IsRoundEnd (meaning : Meanings) (held : ReplayView) (mute : Bool) (ms : List RoundStatement)
+    (entries : List Entry) : Type 0 where
   pub lawful : LawfulRoundEnd held.config held.id entries (round_ended held mute ms)
   pub signed : IsTrue (is_signed_reply held.ring (reply.RoundEnded (Ok (round_ended held mute ms))))
-  pub matches : MatchesHistory (after_end held mute ms)
+  pub matches : MatchesHistory meaning (after_end held mute ms)
       (entries ++ record { event = event.RoundEnd; reply = reply.RoundEnded (Ok (round_ended held mute ms)) } ∷ [])
 
 -- if each open height makes what it may make, the end of the round is lawful
 abbrev pub RoundsEnd : Type 0
 RoundsEnd =
-    (held : ReplayView) (mute : Bool) (ms : List RoundStatement) (entries : List Entry)
-    → IsWithinLimits held → held.clock < last_round → MatchesHistory held entries → (held.mute ≡ true → mute ≡ true)
+    (meaning : Meanings) (held : ReplayView) (mute : Bool) (ms : List RoundStatement) (entries : List Entry)
+    → IsWithinLimits held → held.clock < last_round → MatchesHistory meaning held entries → (held.mute ≡ true → mute ≡ true)
     → AreMade held.ring mute (held.clock + 1) held.rows ms
-    → IsRoundEnd held mute ms entries × IsWithinLimits (after_end held mute ms)
+    → IsRoundEnd meaning held mute ms entries × IsWithinLimits (after_end held mute ms)
 
 -- ---- what a replica chooses
 

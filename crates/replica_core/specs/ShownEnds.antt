@@ -1,4 +1,5 @@
 -- What a replica made at each open height, according to the frames of its round end.
+use Rattle.ledger_model.specs.Meanings.{Meanings}
 use Rattle.std.specs.Prelude.{◌≡◌, ℕ, ◌+◌, ◌<◌, ◌==◌, Bool, true, false, List, [], ◌∷◌, length, map, Option, Some, None, is_some, Ok}
 use Rattle.std.specs.Prelude.{if◌then◌else◌}
 use Rattle.std.specs.List.{filter_map, list_any, AllByRecursion}
@@ -84,8 +85,8 @@ AreShownAlike (x ∷ xs) [] = ⊥
 -- ---- the end of a round
 
 -- the round end continues the replay
-abbrev pub KeepsEnd : ReplayView → List Entry → RoundEnded → Type 0
-KeepsEnd held entries end = KeepsReplay held entries event.RoundEnd (reply.RoundEnded (Ok end))
+abbrev pub KeepsEnd : Meanings → ReplayView → List Entry → RoundEnded → Type 0
+KeepsEnd meaning held entries end = KeepsReplay meaning held entries event.RoundEnd (reply.RoundEnded (Ok end))
 
 -- if the heights make this, they send the frames of the round end
 abbrev pub ShowsFrames : ReplayView → RoundEnded → List RoundStatement → Type 0
@@ -94,8 +95,8 @@ ShowsFrames held end ms = AreShownAlike (frames_of_heights held.config (held.clo
 -- If a round end is lawful and signed, its frames are those of what they say was made, and each open height may make that.
 abbrev pub EndsShow : Type 0
 EndsShow =
-    (held : ReplayView) (entries : List Entry) (end : RoundEnded)
-    → IsWithinLimits held → held.clock < last_round → MatchesHistory held entries → KeepsEnd held entries end
+    (meaning : Meanings) (held : ReplayView) (entries : List Entry) (end : RoundEnded)
+    → IsWithinLimits held → held.clock < last_round → MatchesHistory meaning held entries → KeepsEnd meaning held entries end
     → (end.mute ≡ false → sends_locks_on (held.clock + 1) held.rows ≡ false → AllByRecursion IsFrame (statements_shown end.frames))
     → (let ms = made_shown end.mute (held.clock + 1) held.rows (statements_shown end.frames) in
     AreMade held.ring end.mute (held.clock + 1) held.rows ms × ShowsFrames held end ms)
@@ -106,12 +107,12 @@ AreSpelled frames = AllByRecursion (λ f. is_some (reading f.frame) ≡ true) fr
 
 -- what the frames say was made: each height may make it, and if the round end continues the replay, its frames are the
 -- ones that this sends
-pub record IsShown (held : ReplayView) (end : RoundEnded) (ms : List RoundStatement) : Type 0 where
-  pub made : (entries : List Entry) → MatchesHistory held entries → AreMade held.ring end.mute (held.clock + 1) held.rows ms
-  pub frames : (entries : List Entry) → MatchesHistory held entries → KeepsEnd held entries end → ShowsFrames held end ms
+pub record IsShown (meaning : Meanings) (held : ReplayView) (end : RoundEnded) (ms : List RoundStatement) : Type 0 where
+  pub made : (entries : List Entry) → MatchesHistory meaning held entries → AreMade held.ring end.mute (held.clock + 1) held.rows ms
+  pub frames : (entries : List Entry) → MatchesHistory meaning held entries → KeepsEnd meaning held entries end → ShowsFrames held end ms
   pub own : AllByRecursion (IsOwnMade held.config held.id) ms
   pub count : length ms ≡ length held.rows
 
 -- the round end continues no replay that the state matches
-abbrev pub KeepsNone : ReplayView → RoundEnded → Type 0
-KeepsNone held end = (entries : List Entry) → MatchesHistory held entries → KeepsEnd held entries end → ⊥
+abbrev pub KeepsNone : Meanings → ReplayView → RoundEnded → Type 0
+KeepsNone meaning held end = (entries : List Entry) → MatchesHistory meaning held entries → KeepsEnd meaning held entries end → ⊥

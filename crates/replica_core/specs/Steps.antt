@@ -1,4 +1,5 @@
 -- One event at a replica: the reply, and the core state after it.
+use Rattle.ledger_model.specs.Meanings.{Meanings}
 use Rattle.std.specs.Prelude.{◌≡◌, ℕ, ◌+◌, ◌==◌, IsTrue, MatchBool, List, [], ◌∷◌, ◌++◌, length, take, Option, Some, None, Result, Ok, Err}
 use Rattle.std.specs.Prelude.{nat_lt, nat_le, Bool, true, false, is_ok, if◌then◌else◌}
 use Rattle.std.specs.List.{filter_map}
@@ -30,17 +31,17 @@ use Rattle.replica_core.specs.Replays.{ReplayView, MatchesHistory}
 
 -- for every history that the old state matches, the reply is lawful and signed, and the new state matches that history
 -- with this entry
-abbrev pub IsStep : ReplayView → Event → Reply → ReplayView → Type 0
-IsStep old event reply new =
-    (entries : List Entry) → MatchesHistory old entries
-    → Lawful old.config old.ring old.id entries event reply × IsTrue (is_signed_reply old.ring reply)
-    × MatchesHistory new (entries ++ record { event = event; reply = reply } ∷ [])
+abbrev pub IsStep : Meanings → ReplayView → Event → Reply → ReplayView → Type 0
+IsStep meaning old event reply new =
+    (entries : List Entry) → MatchesHistory meaning old entries
+    → Lawful meaning old.config old.ring old.id entries event reply × IsTrue (is_signed_reply old.ring reply)
+    × MatchesHistory meaning new (entries ++ record { event = event; reply = reply } ∷ [])
 
 -- ---- the replies, by the core state
 
 -- the reply to a submitted transaction
-abbrev pub submit_held : ReplayView → List ℕ → Result (Unit {0}) SubmitRefusal
-submit_held held tx = submit_answer held.pool tx (check_reply held.config.kind held.commits tx)
+abbrev pub submit_held : Meanings → ReplayView → List ℕ → Result (Unit {0}) SubmitRefusal
+submit_held meaning held tx = submit_answer held.pool tx (check_reply meaning held.config.kind held.commits tx)
 
 -- the pool after that reply
 abbrev pub pool_with : Value → List ℕ → Result (Unit {0}) SubmitRefusal → Value
@@ -61,21 +62,21 @@ abbrev pub next_decided : ReplayView → Option Value
 next_decided held = decided_in (row_at held.rows (length held.commits + 1))
 
 -- the reply to running the next block
-abbrev pub execute_held : ReplayView → Result BlockResult NothingDecided
-execute_held held = block_of held.config held.commits (next_decided held)
+abbrev pub execute_held : Meanings → ReplayView → Result BlockResult NothingDecided
+execute_held meaning held = block_of meaning held.config held.commits (next_decided held)
 
 -- the state after the block of these transactions was run
-abbrev pub with_block : ReplayView → Value → ReplayView
-with_block held block = record held {
+abbrev pub with_block : Meanings → ReplayView → Value → ReplayView
+with_block meaning held block = record held {
   commits = held.commits ++ block ∷ [];
-  machine = run held.config.kind (held.commits ++ block ∷ []);
-  pool = left_after block (check_reply held.config.kind (held.commits ++ block ∷ [])) held.pool;
+  machine = run meaning held.config.kind (held.commits ++ block ∷ []);
+  pool = left_after block (check_reply meaning held.config.kind (held.commits ++ block ∷ [])) held.pool;
 }
 
 -- the state after running the next block, if there is one
-abbrev pub after_execute : ReplayView → Option Value → ReplayView
-after_execute held None = held
-after_execute held (Some block) = with_block held block
+abbrev pub after_execute : Meanings → ReplayView → Option Value → ReplayView
+after_execute meaning held None = held
+after_execute meaning held (Some block) = with_block meaning held block
 
 -- the reply to giving up the heights below a new floor
 abbrev pub retire_held : ReplayView → ℕ → Result ℕ RetireRefusal

@@ -30,8 +30,8 @@ impl<A: Application> Replay<A> {
         ensures own { OnOk result ((row : InstanceView) → row_at self.now.rows (height_of frame.now.statement) ≡ Some row
             → row.config ≡ self.now.config) }
         ensures step { IfErr result (λ cause. (bytes : List ℕ) → reading_in self.now.config.frames bytes ≡ Some frame.now
-            → IsStep self.now (event.Deliver bytes) (reply.Delivered (Err cause)) self.now) }
-        ensures cause { IfErr result (λ cause. (entries : List Entry) → MatchesHistory self.now entries
+            → IsStep A.meaning self.now (event.Deliver bytes) (reply.Delivered (Err cause)) self.now) }
+        ensures cause { IfErr result (λ cause. (entries : List Entry) → MatchesHistory A.meaning self.now entries
             → answer_before_signature self.now.config self.now.id entries frame.now.statement ≡ Err cause) }
     {
         let statement = frame.statement();
@@ -47,7 +47,7 @@ impl<A: Application> Replay<A> {
     /// The first cause for which the frame is ignored before its signature is checked, if one applies.
     pub(crate) fn cause_before_signature(&self, frame: &Frame) -> Result<(), Ignored>
         // This holds for every history that the core state matches.
-        ensures { (entries : List Entry) → MatchesHistory self.now entries
+        ensures { (entries : List Entry) → MatchesHistory A.meaning self.now entries
             → result ≡ answer_before_signature self.now.config self.now.id entries frame.now.statement }
     {
         self.find_place(frame)?.judge(frame.statement(), self.clock)
@@ -60,7 +60,7 @@ impl<A: Application> Replay<A> {
         requires there { is_some (row_at self.old.rows (height_of frame.statement)) ≡ true }
         requires own { (row : InstanceView) → row_at self.old.rows (height_of frame.statement) ≡ Some row → row.config ≡ self.old.config }
         ensures step { IfOk result (λ r. (bytes : List ℕ) → reading_in self.old.config.frames bytes ≡ Some frame
-            → IsStep self.old (event.Deliver bytes) (reply.Delivered r) self.new) }
+            → IsStep A.meaning self.old (event.Deliver bytes) (reply.Delivered r) self.new) }
         ensures rest { self.new ≡ record self.old { rows = self.new.rows } }
         ensures ignored { IfOk result (λ r. OnErr r (self.new ≡ self.old)) }
         ensures err { OnErr result (self.new ≡ self.old) }
@@ -73,7 +73,7 @@ impl<A: Application> Replay<A> {
     fn take(&mut self, alloc: Global, frame: Frame) -> Result<Result<(), Ignored>, AllocError>
         requires version { IsTrue (reads self.old.config.frames (version_of frame.statement)) }
         ensures step { IfOk result (λ r. (bytes : List ℕ) → reading_in self.old.config.frames bytes ≡ Some frame
-            → IsStep self.old (event.Deliver bytes) (reply.Delivered r) self.new) }
+            → IsStep A.meaning self.old (event.Deliver bytes) (reply.Delivered r) self.new) }
         ensures rest { self.new ≡ record self.old { rows = self.new.rows } }
         ensures ignored { IfOk result (λ r. OnErr r (self.new ≡ self.old)) }
         ensures err { OnErr result (self.new ≡ self.old) }
@@ -91,7 +91,7 @@ impl<A: Application> Replay<A> {
         alloc: Global,
         bytes: &Bytes,
     ) -> Result<Result<(), Ignored>, AllocError>
-        ensures step { IfOk result (λ r. IsStep self.old (event.Deliver bytes.now) (reply.Delivered r) self.new) }
+        ensures step { IfOk result (λ r. IsStep A.meaning self.old (event.Deliver bytes.now) (reply.Delivered r) self.new) }
         ensures rest { self.new ≡ record self.old { rows = self.new.rows } }
         ensures ignored { IfOk result (λ r. OnErr r (self.new ≡ self.old)) }
         ensures err { OnErr result (self.new ≡ self.old) }

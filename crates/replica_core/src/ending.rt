@@ -101,7 +101,7 @@ impl<A: Application> Core<A> {
     /// statement.
     fn prepare_mute(&self, alloc: Global) -> Result<Prepared, AllocError>
         requires clock { self.now.replay.clock < last_round }
-        ensures prepared { IfOk result (λ p. IsEndPrepared self.now p self.now.keys) }
+        ensures prepared { IfOk result (λ p. IsEndPrepared A.meaning self.now p self.now.keys) }
         ensures mute { IfOk result (λ p. p.ended.mute ≡ true) }
     {
         let endings = self.replay.prepare_ends(alloc)?;
@@ -121,7 +121,7 @@ impl<A: Application> Core<A> {
         requires spelled { AllByRecursion (λ plan. IfSome plan.statement IsStatement) plans.items }
         requires loud { self.old.replay.mute ≡ false }
         requires leaves { self.old.keys.used + due_then self.old ≤ leaves_of self.old.keys.secret }
-        ensures prepared { IfOk result (λ p. IsEndPrepared self.old p self.new.keys) }
+        ensures prepared { IfOk result (λ p. IsEndPrepared A.meaning self.old p self.new.keys) }
         ensures mute { IfOk result (λ p. p.ended.mute ≡ false) }
         ensures uses { UsesAtMost self.old self.new (due_then self.old) }
     {
@@ -162,7 +162,7 @@ impl<A: Application> Core<A> {
     fn prepare_loud(&mut self, alloc: Global) -> Result<Prepared, AllocError>
         requires clock { self.old.replay.clock < last_round }
         requires loud { self.old.replay.mute ≡ false }
-        ensures prepared { IfOk result (λ p. IsEndPrepared self.old p self.new.keys) }
+        ensures prepared { IfOk result (λ p. IsEndPrepared A.meaning self.old p self.new.keys) }
         ensures mute { IfOk result (λ p. p.ended.mute ≡ is_mute_next self.old) }
         // A replica that is mute then uses none.
         ensures uses { UsesAtMost self.old self.new (signed_next self.old) }
@@ -178,7 +178,7 @@ impl<A: Application> Core<A> {
     /// Prepares the end of a round that is not the last one: the replica signs the statements that are due, or is mute from now on.
     fn prepare_open(&mut self, alloc: Global) -> Result<Prepared, AllocError>
         requires clock { self.old.replay.clock < last_round }
-        ensures prepared { IfOk result (λ p. IsEndPrepared self.old p self.new.keys) }
+        ensures prepared { IfOk result (λ p. IsEndPrepared A.meaning self.old p self.new.keys) }
         ensures mute { IfOk result (λ p. p.ended.mute ≡ is_mute_next self.old) }
         ensures uses { UsesAtMost self.old self.new (signed_next self.old) }
     {
@@ -198,7 +198,8 @@ impl<A: Application> Core<A> {
         ensures ready { IfOk result (λ r. IfOk r (IsPreparedFor self.new.replay)) }
         // After every history that the core matches, the reply is lawful and signed, and what the core becomes then matches the
         // history with this entry.
-        ensures step { IfOk result (λ r. IsStep self.old.replay event.RoundEnd (reply.RoundEnded (prepared_reply r)) (after_prepared_reply self.old.replay r)) }
+        ensures step { IfOk result (λ r. IsStep A.meaning self.old.replay event.RoundEnd (reply.RoundEnded (prepared_reply r))
+            (after_prepared_reply self.old.replay r)) }
         // Which leaves sign the statements, in which order.
         ensures leaves { IfOk result (λ r. UsesLeaves self.old.keys self.old.replay.clock (reply.RoundEnded (prepared_reply r)) self.new.keys) }
         // The core is mute then if it was before, or if it had more statements to sign than leaves were left.
@@ -226,7 +227,7 @@ impl<A: Application> Core<A> {
         &mut self,
         alloc: Global,
     ) -> Result<Result<RoundEnded, LastRound>, AllocError>
-        ensures step { IfOk result (λ r. IsStep self.old.replay event.RoundEnd (reply.RoundEnded r) self.new.replay) }
+        ensures step { IfOk result (λ r. IsStep A.meaning self.old.replay event.RoundEnd (reply.RoundEnded r) self.new.replay) }
         ensures leaves { IfOk result (λ r. UsesLeaves self.old.keys self.old.replay.clock (reply.RoundEnded r) self.new.keys) }
         ensures mute { IfOk result (λ _. self.new.replay.mute ≡ is_mute_then self.old event.RoundEnd) }
         ensures err { OnErr result (self.new ≡ record self.old { keys = self.new.keys }) }

@@ -24,8 +24,8 @@ impl<A: Application> Replay<A> {
     /// Runs a block. Reserves the room for it first, so that allocation failure in the application leaves what was committed.
     fn run(&mut self, alloc: Global, block: Batch) -> Result<BlockResult, AllocError>
         requires low { length self.old.commits < max_height }
-        ensures answer { IfOk result (λ r. r ≡ block_reply self.old.config.kind self.old.commits block) }
-        ensures after { IfOk result (λ _. self.new ≡ with_block self.old block) }
+        ensures answer { IfOk result (λ r. r ≡ block_reply A.meaning self.old.config.kind self.old.commits block) }
+        ensures after { IfOk result (λ _. self.new ≡ with_block A.meaning self.old block) }
         ensures err { OnErr result (self.new ≡ self.old) }
     {
         self.committed.reserve(1)?;
@@ -42,9 +42,9 @@ impl<A: Application> Replay<A> {
         &mut self,
         alloc: Global,
     ) -> Result<Result<BlockResult, NothingDecided>, AllocError>
-        ensures answer { IfOk result (λ r. r ≡ execute_held self.old) }
+        ensures answer { IfOk result (λ r. r ≡ execute_held A.meaning self.old) }
         ensures one { IsOneCluster self.old }
-        ensures after { IfOk result (λ _. self.new ≡ after_execute self.old (next_decided self.old)) }
+        ensures after { IfOk result (λ _. self.new ≡ after_execute A.meaning self.old (next_decided self.old)) }
         ensures err { OnErr result (self.new ≡ self.old) }
     {
         let Some(decided) = self.next_decided() else {

@@ -46,7 +46,7 @@ impl<A: Application> Replay<A> {
         ensures clock { result ≡ self.now.clock }
         ensures early { result ≤ last_round }
         // Every matched history opened as many rounds.
-        ensures same { (entries : List Entry) → MatchesHistory self.now entries → clock_at entries ≡ result }
+        ensures same { (entries : List Entry) → MatchesHistory A.meaning self.now entries → clock_at entries ≡ result }
     {
         self.clock
     }
@@ -56,7 +56,7 @@ impl<A: Application> Replay<A> {
         ensures mute { result ≡ self.now.mute }
         ensures limits { IsWithinLimits self.now }
         // It is, in every matched history.
-        ensures same { (entries : List Entry) → MatchesHistory self.now entries → is_mute entries ≡ result }
+        ensures same { (entries : List Entry) → MatchesHistory A.meaning self.now entries → is_mute entries ≡ result }
     {
         // This call shows the proof that the open heights ascend and are within their limits.
         let _ = self.rows.instances();
@@ -68,7 +68,7 @@ impl<A: Application> Replay<A> {
         ensures height { result ≡ length self.now.commits }
         ensures most { result ≤ max_height }
         // Every matched history committed as many.
-        ensures same { (entries : List Entry) → MatchesHistory self.now entries
+        ensures same { (entries : List Entry) → MatchesHistory A.meaning self.now entries
             → length (commits_of self.now.config self.now.id entries) ≡ result }
     {
         // This read opens the invariant for the proof: the application ran as many blocks.
@@ -80,7 +80,7 @@ impl<A: Application> Replay<A> {
     pub fn block(&self, height: Height) -> Option<&Batch>
         ensures block { option_copied result ≡ block_at self.now.commits height }
         // It is the batch that every matched history committed.
-        ensures same { (entries : List Entry) → MatchesHistory self.now entries
+        ensures same { (entries : List Entry) → MatchesHistory A.meaning self.now entries
             → option_copied result ≡ block_at (commits_of self.now.config self.now.id entries) height }
     {
         let number = height.number() as usize;
@@ -96,8 +96,8 @@ impl<A: Application> Replay<A> {
         // Every height below it is committed.
         ensures low { result ≤ length self.now.commits + 1 }
         // It is the floor of every matched history, and no height below it is open there.
-        ensures same { (entries : List Entry) → MatchesHistory self.now entries → floor_of entries ≡ result }
-        ensures closed { (entries : List Entry) → MatchesHistory self.now entries
+        ensures same { (entries : List Entry) → MatchesHistory A.meaning self.now entries → floor_of entries ≡ result }
+        ensures closed { (entries : List Entry) → MatchesHistory A.meaning self.now entries
             → AreClosed self.now.config self.now.id entries result }
     {
         // This read opens the invariant for the proof: a height below the floor is committed.
@@ -110,7 +110,7 @@ impl<A: Application> Replay<A> {
         ensures row { option_copied result ≡ decided_in (row_at self.now.rows height) }
         ensures one { IsOneCluster self.now }
         // It is the batch that every matched history decided.
-        ensures decided { (entries : List Entry) → MatchesHistory self.now entries
+        ensures decided { (entries : List Entry) → MatchesHistory A.meaning self.now entries
             → option_copied result ≡ decision_at self.now.config self.now.id entries height }
     {
         self.rows.decided_at(height)
@@ -120,7 +120,7 @@ impl<A: Application> Replay<A> {
     pub fn undecided_heights(&self, alloc: Global) -> Result<Vec<Height>, AllocError>
         ensures rows { IfOk result (λ heights. heights.items ≡ undecided_in self.now.rows) }
         // They are those of every matched history.
-        ensures same { IfOk result (λ heights. (entries : List Entry) → MatchesHistory self.now entries
+        ensures same { IfOk result (λ heights. (entries : List Entry) → MatchesHistory A.meaning self.now entries
             → heights.items ≡ undecided_heights self.now.config self.now.id entries) }
     {
         let mut heights = Vec::new(alloc);
@@ -134,7 +134,7 @@ impl<A: Application> Replay<A> {
 
     /// The number of blocks that the application committed, and the hash of its state (ABCI's Info).
     pub fn info(&self) -> Info
-        ensures { result ≡ info_reply self.now.config.kind self.now.commits }
+        ensures { result ≡ info_reply A.meaning self.now.config.kind self.now.commits }
     {
         self.executor.info()
     }
@@ -196,7 +196,7 @@ impl<A: Application> Core<A> {
     pub fn is_mute(&self) -> bool
         ensures mute { result ≡ self.now.replay.mute }
         // The next round end has as many statements to sign as every matched history makes due.
-        ensures due { (entries : List Entry) → MatchesHistory self.now.replay entries
+        ensures due { (entries : List Entry) → MatchesHistory A.meaning self.now.replay entries
             → due_then self.now ≡ due_by self.now.replay.config self.now.replay.id entries }
     {
         self.replay.is_mute()
@@ -219,7 +219,7 @@ impl<A: Application> Core<A> {
 
     /// The number of blocks that the application committed, and the hash of its state (ABCI's Info).
     pub fn info(&self) -> Info
-        ensures { result ≡ info_reply self.now.replay.config.kind self.now.replay.commits }
+        ensures { result ≡ info_reply A.meaning self.now.replay.config.kind self.now.replay.commits }
     {
         self.replay.info()
     }
@@ -244,8 +244,8 @@ impl<A: Application> Core<A> {
         // Every height below it is committed.
         ensures low { result ≤ length self.now.replay.commits + 1 }
         // It is the floor of every matched history, and no height below it is open there.
-        ensures same { (entries : List Entry) → MatchesHistory self.now.replay entries → floor_of entries ≡ result }
-        ensures closed { (entries : List Entry) → MatchesHistory self.now.replay entries
+        ensures same { (entries : List Entry) → MatchesHistory A.meaning self.now.replay entries → floor_of entries ≡ result }
+        ensures closed { (entries : List Entry) → MatchesHistory A.meaning self.now.replay entries
             → AreClosed self.now.replay.config self.now.replay.id entries result }
     {
         self.replay.floor()
@@ -255,7 +255,7 @@ impl<A: Application> Core<A> {
     pub fn decided_at(&self, height: Height) -> Option<&Batch>
         ensures row { option_copied result ≡ decided_in (row_at self.now.replay.rows height) }
         // It is the batch that every matched history decided.
-        ensures decided { (entries : List Entry) → MatchesHistory self.now.replay entries
+        ensures decided { (entries : List Entry) → MatchesHistory A.meaning self.now.replay entries
             → option_copied result ≡ decision_at self.now.replay.config self.now.replay.id entries height }
     {
         self.replay.decided_at(height)

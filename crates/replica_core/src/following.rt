@@ -37,7 +37,8 @@ impl<A: Application> Replay<A> {
         requires endings { endings.items ≡ map (λ row. opened_effects row (self.now.clock + 1)) self.now.rows }
         requires loud { end.now.mute ≡ false }
         requires none_on { sends_locks_on (self.now.clock + 1) self.now.rows ≡ false }
-        ensures shown { IfOk result (λ o. MatchOption o (KeepsNone self.now end.now) (λ closings. IsShown self.now end.now (map (λ c. c.made) closings.items))) }
+        ensures shown { IfOk result (λ o. MatchOption o (KeepsNone A.meaning self.now end.now)
+            (λ closings. IsShown A.meaning self.now end.now (map (λ c. c.made) closings.items))) }
         ensures endings { IfOk result (λ o. IfSome o (λ closings. map (λ c. c.ending) closings.items ≡ map (λ row. opened_effects row (self.now.clock + 1)) self.now.rows)) }
     {
         let Some(frames) = read_frames(alloc, end.frames.as_slice())? else {
@@ -62,7 +63,8 @@ impl<A: Application> Replay<A> {
         requires clock { self.now.clock < last_round }
         requires limits { IsWithinLimits self.now }
         requires endings { endings.items ≡ map (λ row. opened_effects row (self.now.clock + 1)) self.now.rows }
-        ensures shown { IfOk result (λ o. MatchOption o (KeepsNone self.now end.now) (λ closings. IsShown self.now end.now (map (λ c. c.made) closings.items))) }
+        ensures shown { IfOk result (λ o. MatchOption o (KeepsNone A.meaning self.now end.now)
+            (λ closings. IsShown A.meaning self.now end.now (map (λ c. c.made) closings.items))) }
         ensures endings { IfOk result (λ o. IfSome o (λ closings. map (λ c. c.ending) closings.items ≡ map (λ row. opened_effects row (self.now.clock + 1)) self.now.rows)) }
     {
         if end.mute {
@@ -86,7 +88,8 @@ impl<A: Application> Replay<A> {
     /// Follows the end of a round that is not the last one.
     fn follow_round(&mut self, alloc: Global, ended: &RoundEnded) -> Result<bool, AllocError>
         requires clock { self.old.clock < last_round }
-        ensures followed { IfOk result (λ kept. IsFollowed self.old event.RoundEnd (reply.RoundEnded (Ok ended.now)) kept self.new) }
+        ensures followed { IfOk result (λ kept. IsFollowed A.meaning self.old event.RoundEnd
+            (reply.RoundEnded (Ok ended.now)) kept self.new) }
         ensures same { IsSameReplay self.old self.new }
         ensures err { OnErr result (self.new ≡ self.old) }
     {
@@ -108,7 +111,7 @@ impl<A: Application> Replay<A> {
         alloc: Global,
         shown: &Result<RoundEnded, LastRound>,
     ) -> Result<bool, AllocError>
-        ensures followed { IfOk result (λ kept. IsFollowed self.old event.RoundEnd (reply.RoundEnded shown.now) kept self.new) }
+        ensures followed { IfOk result (λ kept. IsFollowed A.meaning self.old event.RoundEnd (reply.RoundEnded shown.now) kept self.new) }
         ensures same { IsSameReplay self.old self.new }
         ensures err { OnErr result (self.new ≡ self.old) }
     {
@@ -134,7 +137,7 @@ impl<A: Application> Replay<A> {
         event: &Event,
         reply: &Reply,
     ) -> Result<bool, AllocError>
-        ensures followed { IfOk result (λ kept. IsFollowed self.old event.now reply.now kept self.new) }
+        ensures followed { IfOk result (λ kept. IsFollowed A.meaning self.old event.now reply.now kept self.new) }
         ensures same { IsSameReplay self.old self.new }
         ensures err { OnErr result (self.new ≡ self.old) }
         ensures free { OnErr result (gives_up event.now ≡ false) }

@@ -52,9 +52,9 @@ impl<A: Application> Replay<A> {
         requires clock { self.now.clock < last_round }
         requires count { length closings.now ≡ length self.now.rows }
         // This holds for every history that the core state matches.
-        ensures may { (entries : List Entry) → MatchesHistory self.now entries → result ≡ true
+        ensures may { (entries : List Entry) → MatchesHistory A.meaning self.now entries → result ≡ true
             → AreMade self.now.ring false (self.now.clock + 1) self.now.rows (map (λ c. c.made) closings.now) }
-        ensures only { (entries : List Entry) → MatchesHistory self.now entries
+        ensures only { (entries : List Entry) → MatchesHistory A.meaning self.now entries
             → AreMade self.now.ring false (self.now.clock + 1) self.now.rows (map (λ c. c.made) closings.now) → result ≡ true }
         ensures own { result ≡ true → AllByRecursion (λ c. IsOwnMade self.now.config self.now.id c.made) closings.now }
     {

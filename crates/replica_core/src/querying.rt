@@ -14,7 +14,7 @@ impl<A: Application> Replay<A> {
         key: &[u8],
         height: u32,
     ) -> Result<Result<QueryAnswer, NotHeld>, AllocError>
-        ensures { IfOk result (λ r. r ≡ query_reply self.now.config.kind self.now.commits key.now height) }
+        ensures { IfOk result (λ r. r ≡ query_reply A.meaning self.now.config.kind self.now.commits key.now height) }
     {
         match self.executor.query(key, height) {
             Ok(answer) => Ok(Ok(answer)),

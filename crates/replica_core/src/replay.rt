@@ -64,7 +64,7 @@ impl<A: Application> Model for Replay<A> {
     } };
 
     ghost invariant = { λ k. (k.id < k.config.replicas) × (k.rows.config ≡ k.config) × (k.rows.id ≡ k.id)
-        × (k.executor ≡ run k.config.kind k.committed.items)
+        × (k.executor ≡ run A.meaning k.config.kind k.committed.items)
         × (length k.committed.items ≤ max_height) × (k.clock ≤ last_round)
         × (k.rows.floor ≤ length k.committed.items + 1) };
 }
@@ -86,10 +86,10 @@ impl<A: Application> Replay<A> {
         randoms: [RandomState; 2],
     ) -> Result<Self, AllocError>
         requires member { id < config.replicas }
-        requires opening { A.machine app ≡ run config.kind [] }
-        ensures new { IfOk result (λ replay. replay ≡ new_replay config id ring) }
+        requires opening { A.machine app ≡ run A.meaning config.kind [] }
+        ensures new { IfOk result (λ replay. replay ≡ new_replay A.meaning config id ring) }
         // It matches the empty history.
-        ensures matches { IfOk result (λ replay. MatchesHistory replay []) }
+        ensures matches { IfOk result (λ replay. MatchesHistory A.meaning replay []) }
     {
         let [pool_random, verifier_random] = randoms;
         let executor = Executor::new(app)?;

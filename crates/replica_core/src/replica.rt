@@ -50,10 +50,10 @@ impl<A: Application> Core<A> {
     ) -> Result<Self, AllocError>
         requires member { id < config.replicas }
         requires own_key { slice_get ring id ≡ Some (public_key_of signer.secret) }
-        requires opening { A.machine app ≡ run config.kind [] }
-        ensures new { IfOk result (λ core. core ≡ record { replay = new_replay config id ring; keys = signer }) }
+        requires opening { A.machine app ≡ run A.meaning config.kind [] }
+        ensures new { IfOk result (λ core. core ≡ record { replay = new_replay A.meaning config id ring; keys = signer }) }
         // It matches the empty history.
-        ensures matches { IfOk result (λ core. MatchesHistory core.replay []) }
+        ensures matches { IfOk result (λ core. MatchesHistory A.meaning core.replay []) }
     {
         Ok(Core {
             replay: Replay::new(alloc, config, id, ring, app, randoms)?,
@@ -68,7 +68,7 @@ impl<A: Application> Core<A> {
     pub fn step(&mut self, alloc: Global, event: &Event) -> Result<Reply, AllocError>
         // After every history that the core matches, the reply is lawful and signed, and the core then matches the
         // history with this entry.
-        ensures step { IfOk result (λ reply. IsStep self.old.replay event.now reply self.new.replay) }
+        ensures step { IfOk result (λ reply. IsStep A.meaning self.old.replay event.now reply self.new.replay) }
         // Which leaves sign the statements, in which order.
         ensures leaves { IfOk result (λ reply. UsesLeaves self.old.keys self.old.replay.clock reply self.new.keys) }
         // The core is mute if it was before, or if a round end had more statements to sign than leaves were left.

@@ -11,7 +11,7 @@ impl<A: Application> Replay<A> {
 
     /// Takes a submitted transaction into the pool, or refuses it.
     pub(crate) fn submit(&mut self, bytes: &[u8]) -> Result<Result<(), SubmitRefusal>, AllocError>
-        ensures answer { IfOk result (λ r. r ≡ submit_held self.old bytes.now) }
+        ensures answer { IfOk result (λ r. r ≡ submit_held A.meaning self.old bytes.now) }
         ensures after { IfOk result (λ r. self.new ≡ record self.old { pool = pool_with self.old.pool bytes.now r }) }
         ensures err { OnErr result (self.new ≡ self.old) }
     {

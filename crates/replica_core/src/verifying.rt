@@ -51,7 +51,7 @@ impl<A: Application> Core<A> {
     /// the height, the round, the phase, the owner, or a repetition.
     pub fn cause_before_signature(&self, frame: &Frame) -> Result<(), Ignored>
         // This holds for every history that the core matches.
-        ensures { (entries : List Entry) → MatchesHistory self.now.replay entries
+        ensures { (entries : List Entry) → MatchesHistory A.meaning self.now.replay entries
             → result ≡ answer_before_signature self.now.replay.config self.now.replay.id entries frame.now.statement }
     {
         self.replay.cause_before_signature(frame)

@@ -51,7 +51,7 @@ pub(crate) fn follower_with<A: Application>(
     told: &Snapshot,
     app: A,
 ) -> Result<Follower<A>, Fault>
-    requires { A.machine app ≡ run told.now.config.kind [] }
+    requires { A.machine app ≡ run A.meaning told.now.config.kind [] }
     ensures { IfOk result (λ follower. follower.replay.ring ≡ told.now.ring) }
 {
     let id = told.history.replica;

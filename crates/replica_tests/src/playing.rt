@@ -53,7 +53,7 @@ pub(crate) fn new_simulation<A: Application>(
     apps: Vec<A>,
 ) -> Result<Simulation<A>, Fault>
     requires apps { vec_len apps ≡ length (correct_without setup.now.config setup.now.liars.items) }
-    requires opening { All (λ app. A.machine app ≡ run setup.now.config.kind []) apps.items }
+    requires opening { All (λ app. A.machine app ≡ run A.meaning setup.now.config.kind []) apps.items }
 {
     let cluster = cluster_of(setup);
     let randoms = new_randoms(alloc, random, correct_of(setup))?;

@@ -1,4 +1,5 @@
 -- A replica's answers to its clients.
+use Rattle.ledger_model.specs.Meanings.{Meanings}
 use Rattle.std.proofs.Common.{◌≡◌, ℕ, true, ◌<◌, List, [], ◌∷◌, ◌++◌, length, Some, Ok, Err, refl, ap, ◌∙◌, sym, subst, arith, slice_get}
 use Rattle.std.proofs.Common.{length-append, Result}
 use Rattle.std.specs.Prelude.{if◌then◌else◌}
@@ -26,33 +27,38 @@ use Rattle.locked_replica.proofs.Applying.{applies_one}
 use Rattle.replica_turns.specs.Clients.{IsReceipt, is_tx_len, query_reply_in, query_reply_at, submit_events, with_index}
 
 -- as of the last block a key is always answered
-pub last_answer : (kind : AppKind) (batches : List Value) (key : List ℕ)
-    → query_reply kind batches key 0 ≡ Ok (record { height = length batches; value = held_at kind (done_by kind batches) key })
+pub last_answer : (meaning : Meanings) (kind : AppKind) (batches : List Value) (key : List ℕ)
+    → query_reply meaning kind batches key 0 ≡ Ok (record {
+      height = length batches;
+      value = held_at meaning kind
+          (done_by meaning kind batches) key;
+    })
 unfolding query_reply
-last_answer kind batches key = refl
+last_answer meaning kind batches key = refl
 
 -- what a lawful reply to a query answers
-pub lawful_query : (config : Config) (ring : Ring) (id : ℕ) (entries : List Entry) (key : List ℕ) (h : ℕ) (r : Reply)
-    → Lawful config ring id entries (event.Query key h) r
-    → query_reply_in r ≡ Some (query_reply config.kind (commits_of config id entries) key h)
-lawful_query config ring id entries key h (reply.Queried answer) law = ap Some law
-lawful_query config ring id entries key h (reply.Submitted r) law = absurd law
-lawful_query config ring id entries key h (reply.Proposed r) law = absurd law
-lawful_query config ring id entries key h (reply.Delivered r) law = absurd law
-lawful_query config ring id entries key h (reply.RoundEnded r) law = absurd law
-lawful_query config ring id entries key h (reply.Executed r) law = absurd law
-lawful_query config ring id entries key h (reply.Retired r) law = absurd law
+pub lawful_query : (meaning : Meanings) (config : Config) (ring : Ring) (id : ℕ) (entries : List Entry) (key : List ℕ) (h : ℕ) (r : Reply)
+    → Lawful meaning config ring id entries (event.Query key h) r
+    → query_reply_in r ≡ Some (query_reply meaning config.kind (commits_of config id entries) key h)
+lawful_query meaning config ring id entries key h (reply.Queried answer) law = ap Some law
+lawful_query meaning config ring id entries key h (reply.Submitted r) law = absurd law
+lawful_query meaning config ring id entries key h (reply.Proposed r) law = absurd law
+lawful_query meaning config ring id entries key h (reply.Delivered r) law = absurd law
+lawful_query meaning config ring id entries key h (reply.RoundEnded r) law = absurd law
+lawful_query meaning config ring id entries key h (reply.Executed r) law = absurd law
+lawful_query meaning config ring id entries key h (reply.Retired r) law = absurd law
 
 -- what an entry that was just added answers to a query as of the last block
-pub query_added : (config : Config) (ring : Ring) (id : ℕ) (old new : List Entry) (key : List ℕ) (h : ℕ) (r : Reply) (i : ℕ)
+pub query_added : (meaning : Meanings) (config : Config) (ring : Ring) (id : ℕ) (old new : List Entry) (key : List ℕ) (h : ℕ) (r : Reply)
+    (i : ℕ)
     → i ≡ length old → h ≡ 0 → new ≡ old ++ record { event = event.Query key h; reply = r } ∷ []
-    → Lawful config ring id old (event.Query key h) r
-    → query_reply_at (slice_get new i) ≡ Some (query_reply config.kind (commits_of config id old) key 0)
-query_added config ring id old new key h r i at last_one grown law =
+    → Lawful meaning config ring id old (event.Query key h) r
+    → query_reply_at (slice_get new i) ≡ Some (query_reply meaning config.kind (commits_of config id old) key 0)
+query_added meaning config ring id old new key h r i at last_one grown law =
     let e : Entry = record { event = event.Query key h; reply = r } in
     let last : slice_get new i ≡ Some e = rw (at, grown) (get_last old e) in
-    subst (λ (n : ℕ). query_reply_at (slice_get new i) ≡ Some (query_reply config.kind (commits_of config id old) key n)) last_one
-    (ap query_reply_at last ∙ lawful_query config ring id old key h r law)
+    subst (λ (n : ℕ). query_reply_at (slice_get new i) ≡ Some (query_reply meaning config.kind (commits_of config id old) key n)) last_one
+    (ap query_reply_at last ∙ lawful_query meaning config ring id old key h r law)
 
 -- an entry that took the transaction holds its receipt
 receipt_held : (old new : List Entry) (tx : List ℕ) (answer : Result (Unit {0}) SubmitRefusal)
@@ -65,39 +71,43 @@ receipt_held old new tx (Ok u) grown =
 receipt_held old new tx (Err refusal) grown = tt
 
 -- the receipt of an entry that was just added
-pub receipt_added : (config : Config) (ring : Ring) (id : ℕ) (old new : List Entry) (tx bytes : List ℕ) (r : Reply) → bytes ≡ tx
-    → new ≡ old ++ record { event = event.Submit bytes; reply = r } ∷ [] → Lawful config ring id old (event.Submit bytes) r
-    → IsReceipt new tx (with_index (length old) (submit_reply config id old tx))
-receipt_added config ring id old new tx bytes (reply.Submitted answer) same grown law =
-    receipt_held old new tx (submit_reply config id old tx)
+pub receipt_added : (meaning : Meanings) (config : Config) (ring : Ring) (id : ℕ) (old new : List Entry) (tx bytes : List ℕ) (r : Reply)
+    → bytes ≡ tx
+    → new ≡ old ++ record { event = event.Submit bytes; reply = r } ∷ [] → Lawful meaning config ring id old (event.Submit bytes) r
+    → IsReceipt new tx (with_index (length old) (submit_reply meaning config id old tx))
+receipt_added meaning config ring id old new tx bytes (reply.Submitted answer) same grown law =
+    receipt_held old new tx (submit_reply meaning config id old tx)
     (grown ∙ ap (λ a. old ++ record { event = event.Submit bytes; reply = reply.Submitted a } ∷ []) law
-    ∙ ap (λ b. old ++ record { event = event.Submit b; reply = reply.Submitted (submit_reply config id old b) } ∷ []) same)
-receipt_added config ring id old new tx bytes (reply.Queried r) same grown law = absurd law
-receipt_added config ring id old new tx bytes (reply.Proposed r) same grown law = absurd law
-receipt_added config ring id old new tx bytes (reply.Delivered r) same grown law = absurd law
-receipt_added config ring id old new tx bytes (reply.RoundEnded r) same grown law = absurd law
-receipt_added config ring id old new tx bytes (reply.Executed r) same grown law = absurd law
-receipt_added config ring id old new tx bytes (reply.Retired r) same grown law = absurd law
+    ∙ ap (λ b. old ++ record { event = event.Submit b; reply = reply.Submitted (submit_reply meaning config id old b) } ∷ []) same)
+receipt_added meaning config ring id old new tx bytes (reply.Queried r) same grown law = absurd law
+receipt_added meaning config ring id old new tx bytes (reply.Proposed r) same grown law = absurd law
+receipt_added meaning config ring id old new tx bytes (reply.Delivered r) same grown law = absurd law
+receipt_added meaning config ring id old new tx bytes (reply.RoundEnded r) same grown law = absurd law
+receipt_added meaning config ring id old new tx bytes (reply.Executed r) same grown law = absurd law
+receipt_added meaning config ring id old new tx bytes (reply.Retired r) same grown law = absurd law
 
 -- the pool's answer, as the entry that was just added has it
-pub submit_answered : (config : Config) (ring : Ring) (id : ℕ) (old new : List Entry) (tx bytes : List ℕ) (r : Reply) (i : ℕ) (e : Entry)
+pub submit_answered : (meaning : Meanings) (config : Config) (ring : Ring) (id : ℕ) (old new : List Entry) (tx bytes : List ℕ) (r : Reply)
+    (i : ℕ) (e : Entry)
     (answer : Result (Unit {0}) SubmitRefusal) → i ≡ length old → bytes ≡ tx
-    → new ≡ old ++ record { event = event.Submit bytes; reply = r } ∷ [] → Lawful config ring id old (event.Submit bytes) r
-    → slice_get new i ≡ Some e → e.reply ≡ reply.Submitted answer → answer ≡ submit_reply config id old tx
-submit_answered config ring id old new tx bytes (reply.Submitted a) i e answer at same grown law found told =
+    → new ≡ old ++ record { event = event.Submit bytes; reply = r } ∷ [] → Lawful meaning config ring id old (event.Submit bytes) r
+    → slice_get new i ≡ Some e → e.reply ≡ reply.Submitted answer → answer ≡ submit_reply meaning config id old tx
+submit_answered meaning config ring id old new tx bytes (reply.Submitted a) i e answer at same grown law found told =
     let added : Entry = record { event = event.Submit bytes; reply = reply.Submitted a } in
     let last : slice_get new i ≡ Some added = rw (at, grown) (get_last old added) in
     let own : reply.Submitted answer ≡ reply.Submitted a = cc (last, found, told) in
     cc (own, law, same)
-submit_answered config ring id old new tx bytes (reply.Queried r) i e answer at same grown law found told = absurd law
-submit_answered config ring id old new tx bytes (reply.Proposed r) i e answer at same grown law found told = absurd law
-submit_answered config ring id old new tx bytes (reply.Delivered r) i e answer at same grown law found told = absurd law
-submit_answered config ring id old new tx bytes (reply.RoundEnded r) i e answer at same grown law found told = absurd law
-submit_answered config ring id old new tx bytes (reply.Executed r) i e answer at same grown law found told = absurd law
-submit_answered config ring id old new tx bytes (reply.Retired r) i e answer at same grown law found told = absurd law
+submit_answered meaning config ring id old new tx bytes (reply.Queried r) i e answer at same grown law found told = absurd law
+submit_answered meaning config ring id old new tx bytes (reply.Proposed r) i e answer at same grown law found told = absurd law
+submit_answered meaning config ring id old new tx bytes (reply.Delivered r) i e answer at same grown law found told = absurd law
+submit_answered meaning config ring id old new tx bytes (reply.RoundEnded r) i e answer at same grown law found told = absurd law
+submit_answered meaning config ring id old new tx bytes (reply.Executed r) i e answer at same grown law found told = absurd law
+submit_answered meaning config ring id old new tx bytes (reply.Retired r) i e answer at same grown law found told = absurd law
 
 -- the one event of a transaction that a pool may take
-pub one_submit : (tx : List ℕ) (old new : StateView) → is_tx_len tx ≡ true → AppliesEvent old (event.Submit tx) new
-    → AppliesEach old (submit_events tx) new
-one_submit tx old new fits applies =
-    subst (λ b. AppliesEach old (if b then event.Submit tx ∷ [] else []) new) (sym fits) (applies_one old new (event.Submit tx) applies)
+pub one_submit : (meaning : Meanings) (tx : List ℕ) (old new : StateView) → is_tx_len tx ≡ true
+    → AppliesEvent meaning old (event.Submit tx) new
+    → AppliesEach meaning old (submit_events tx) new
+one_submit meaning tx old new fits applies =
+    subst (λ b. AppliesEach meaning old (if b then event.Submit tx ∷ [] else []) new) (sym fits)
+    (applies_one meaning old new (event.Submit tx) applies)

@@ -64,10 +64,10 @@ fn submit_event<A: Application>(
 ) -> Result<Result<u32, SubmitRefusal>, ApplyFault>
     requires { length state.old.entries < max_history_len }
     ensures answer { IfOk result (λ answer. answer ≡ with_index (length state.old.entries)
-        (submit_reply state.old.config state.old.id state.old.entries tx.now)) }
+        (submit_reply A.meaning state.old.config state.old.id state.old.entries tx.now)) }
     ensures receipt { IfOk result (λ answer. IsReceipt state.new.entries tx.now answer) }
-    ensures applied { OnOk result (AppliesEvent state.old (events.Submit tx.now) state.new) }
-    ensures sound { OnOk result (IsSound state.new) }
+    ensures applied { OnOk result (AppliesEvent A.meaning state.old (events.Submit tx.now) state.new) }
+    ensures sound { OnOk result (IsSound A.meaning state.new) }
     ensures memory { OnErr result (IsErrOf result ApplyFault.NoMemory) }
     ensures same { OnErr result (state.new ≡ state.old) }
 {
@@ -95,10 +95,10 @@ pub fn submit<A: Application>(
     tx: &[u8],
 ) -> Result<Result<u32, SubmitRefusal>, ApplyFault>
     ensures answer { IfOk result (λ answer. answer ≡ with_index (length state.old.entries)
-        (submit_reply state.old.config state.old.id state.old.entries tx.now)) }
+        (submit_reply A.meaning state.old.config state.old.id state.old.entries tx.now)) }
     // The entry with the index is the Submit of these bytes that the pool took.
     ensures receipt { IfOk result (λ answer. IsReceipt state.new.entries tx.now answer) }
-    ensures applied { OnOk result (AppliesEach state.old (submit_events tx.now) state.new) }
+    ensures applied { OnOk result (AppliesEach A.meaning state.old (submit_events tx.now) state.new) }
     // Each new entry of the history is one that clients may use.
     ensures used { length state.new.entries + entries.new ≡ length state.old.entries + entries.old }
     ensures full { IsErrOf result ApplyFault.HistoryFull
@@ -107,7 +107,7 @@ pub fn submit<A: Application>(
     ensures same_entries { OnErr result (entries.new ≡ entries.old) }
     // Bytes that no pool takes always get an answer.
     ensures needed { OnErr result (is_tx_len tx.now ≡ true) }
-    ensures sound { IsSound state.new }
+    ensures sound { IsSound A.meaning state.new }
     // A client's transaction uses no signature.
     ensures leaves { state.new.used ≡ state.old.used }
 {
@@ -149,14 +149,15 @@ pub fn query<A: Application>(
     entries: &mut ClientEntries,
     key: Key,
 ) -> Result<QueryAnswer, ApplyFault>
-    ensures answer { IfOk result (λ answer. Ok answer ≡ query_reply state.old.config.kind (commits_of state.old.config state.old.id state.old.entries) key 0) }
-    ensures applied { OnOk result (AppliesEvent state.old (events.Query key 0) state.new) }
-    ensures fault { OnErr result ((state.new ≡ state.old) ⊎ AppliesEvent state.old (events.Query key 0) state.new) }
+    ensures answer { IfOk result (λ answer. Ok answer ≡ query_reply A.meaning state.old.config.kind
+        (commits_of state.old.config state.old.id state.old.entries) key 0) }
+    ensures applied { OnOk result (AppliesEvent A.meaning state.old (events.Query key 0) state.new) }
+    ensures fault { OnErr result ((state.new ≡ state.old) ⊎ AppliesEvent A.meaning state.old (events.Query key 0) state.new) }
     // Each new entry of the history is one that clients may use.
     ensures used { length state.new.entries + entries.new ≡ length state.old.entries + entries.old }
     ensures full { IsErrOf result ApplyFault.HistoryFull ↔ ((entries.old ≡ 0) ⊎ (max_history_len ≤ length state.old.entries)) }
     ensures same { IsErrOf result ApplyFault.HistoryFull → state.new ≡ state.old }
-    ensures sound { IsSound state.new }
+    ensures sound { IsSound A.meaning state.new }
     // A client's query uses no signature.
     ensures leaves { state.new.used ≡ state.old.used }
 {

@@ -28,8 +28,9 @@ pub fn new_replica<A: Application>(
     requires below { id < cluster.now.config.replicas }
     requires signer { signer ≡ unused (secret_of cluster.now id) }
     requires ring { ring.now ≡ ring_of cluster.now }
-    requires opening { A.machine app ≡ run cluster.now.config.kind [] }
-    ensures { IfOk result (λ state. state ≡ new_state cluster.now.config id (ring_of cluster.now) (unused (secret_of cluster.now id))) }
+    requires opening { A.machine app ≡ run A.meaning cluster.now.config.kind [] }
+    ensures { IfOk result (λ state. state ≡ new_state A.meaning cluster.now.config id (ring_of cluster.now)
+        (unused (secret_of cluster.now id))) }
 {
     State::new(
         alloc,

@@ -11,9 +11,9 @@ use locked_replica::State;
 /// Takes the events in order, up to the first that is refused, and returns the previous length of the history.
 fn take_all<A: Application>(state: &mut State<A>, events: Vec<Event>) -> Result<usize, ApplyFault>
     ensures index { IfOk result (λ index. index ≡ length state.old.entries) }
-    ensures applied { OnOk result (AppliesEach state.old events.items state.new) }
-    ensures refused { IfErr result (λ why. AppliesSome state.old events.items why state.new) }
-    ensures sound { IsSound state.new }
+    ensures applied { OnOk result (AppliesEach A.meaning state.old events.items state.new) }
+    ensures refused { IfErr result (λ why. AppliesSome A.meaning state.old events.items why state.new) }
+    ensures sound { IsSound A.meaning state.new }
 {
     let index = state.len();
     for event in events {
@@ -37,9 +37,9 @@ pub fn turn<A: Application>(
     requires board { seat.old.board ≡ board.now }
     requires replica { seat.old.replica ≡ state.old.id }
     ensures index { IfOk result (λ index. index ≡ length state.old.entries) }
-    ensures applied { OnOk result (AppliesEach state.old events.items state.new) }
-    ensures refused { IfErr result (λ why. AppliesSome state.old events.items why state.new) }
-    ensures sound { IsSound state.new }
+    ensures applied { OnOk result (AppliesEach A.meaning state.old events.items state.new) }
+    ensures refused { IfErr result (λ why. AppliesSome A.meaning state.old events.items why state.new) }
+    ensures sound { IsSound A.meaning state.new }
     ensures seat { seat.new ≡ record seat.old { height = max seat.old.height (height_in state.new) } }
 {
     let taken = take_all(state, events);

@@ -1,4 +1,5 @@
 -- What entries decide and give up, with one entry more.
+use Rattle.ledger_model.specs.Meanings.{Meanings}
 use Rattle.std.proofs.Common.{◌≡◌, ◌∙◌, ℕ, ◌+◌, ◌≤◌, List, [], ◌∷◌, ◌++◌, length, take, refl, sym, ap, subst, inl, arith, append_assoc}
 use Rattle.std.proofs.Common.{append-nil, take_all}
 use Rattle.ledger_model.specs.declared.history.Entry.{Entry}
@@ -53,17 +54,18 @@ retired_more a b part entries i e start before after same split was now =
     (now ∙ ap (λ r. before ++ retired_marks_of part r (take i entries) e) same.id)
 
 -- all entries were followed
-pub all_followed : (a : ReplayView) (part : Part) (entries : List Entry) (i : ℕ) (start now : ReplayMarks) → length entries ≤ i
-    → Replay a.config a.ring a.id (take i entries)
+pub all_followed : (meaning : Meanings) (a : ReplayView) (part : Part) (entries : List Entry) (i : ℕ) (start now : ReplayMarks)
+    → length entries ≤ i
+    → Replay meaning a.config a.ring a.id (take i entries)
     → now.decisions.items ≡ start.decisions.items ++ decisions_in a.config part a.id (take i entries)
     → now.retired.items ≡ start.retired.items ++ retired_in part a.id (take i entries)
-    → FollowsHistory a.config a.ring part a.id entries start now (length entries)
-all_followed a part entries i start now over replay decides retires =
+    → FollowsHistory meaning a.config a.ring part a.id entries start now (length entries)
+all_followed meaning a part entries i start now over replay decides retires =
     let all : take i entries ≡ take (length entries) entries = take_all i entries over ∙ sym (take_all (length entries) entries (omega arith)) in
     record {
       longest = record {
         inside = omega arith;
-        replay = subst (Replay a.config a.ring a.id) all replay;
+        replay = subst (Replay meaning a.config a.ring a.id) all replay;
         ends = inl refl;
       };
       decisions = decides ∙ ap (λ es. start.decisions.items ++ decisions_in a.config part a.id es) all;

@@ -1,4 +1,5 @@
 -- What an entry decides: what is decided after it at the open heights where nothing was decided before it.
+use Rattle.ledger_model.specs.Meanings.{Meanings}
 use Rattle.std.proofs.Common.{◌≡◌, ◌∙◌, ℕ, zero, suc, ◌+◌, ◌*◌, ◌/◌, ◌<◌, ◌≤◌, Bool, true, false, ◌&&◌, cond, inl, inr, List, [], ◌∷◌, ◌++◌}
 use Rattle.std.proofs.Common.{length, refl, sym, ap, arith}
 use Rattle.std.specs.Prelude.{Option, Some, None, Ok, is_some, nat_lt, filter, find}
@@ -114,11 +115,11 @@ none_decided config log more only from (suc k) closed =
 
 -- ---- one height, and one entry more
 
-module _ (config : Config) (ring : Ring) (id : ℕ) (front : List Entry) (e : Entry) (h : ℕ) where
+module _ (meaning : Meanings) (config : Config) (ring : Ring) (id : ℕ) (front : List Entry) (e : Entry) (h : ℕ) where
   log_then : log_of config id h (front ++ e ∷ [])
       ≡ log_of config id h front ++ notes_of config id h (log_of config id h front) e.event e.reply
   unfolding log_of
-  log_then = log_of-snoc config ring id h [] front e
+  log_then = log_of-snoc meaning config ring id h [] front e
 
   -- an entry that opens no round decides nothing
   decided_same : clock_of (log_of config id h (front ++ e ∷ [])) ≡ clock_of (log_of config id h front)
@@ -150,8 +151,8 @@ floor_kept : (r : Reply) (floor : ℕ) → is_opened r ≡ true → floor_step f
 floor_kept (reply.Retired (Ok raised)) floor opened = cc
 floor_kept r floor opened = refl
 
-module _ (old new : ReplayView) (front : List Entry) (e : Entry) (matches : MatchesHistory old front)
-    (later : MatchesHistory new (front ++ e ∷ [])) (same : IsSameReplay old new) where
+module _ (meaning : Meanings) (old new : ReplayView) (front : List Entry) (e : Entry) (matches : MatchesHistory meaning old front)
+    (later : MatchesHistory meaning new (front ++ e ∷ [])) (same : IsSameReplay old new) where
   -- the round that is open after it
   clock_there : (h : ℕ) → clock_of (log_of old.config old.id h (front ++ e ∷ []))
       ≡ clock_of (log_of old.config old.id h front) + cond (is_opened e.reply) 1 0
@@ -179,7 +180,7 @@ module _ (old new : ReplayView) (front : List Entry) (e : Entry) (matches : Matc
         (matches.blocks h some (omega (arith, below, count, blocks, low))))
     | inr from ↦
         ap (λ d. new_decision h (decided_at old.config old.id front h) d)
-        (decided_none old.config old.ring old.id front e h (matches.unopened h from none) (clock_next h))
+        (decided_none meaning old.config old.ring old.id front e h (matches.unopened h from none) (clock_next h))
         ∙ none_new h (decided_at old.config old.id front h)
   ]
 
@@ -189,7 +190,7 @@ module _ (old new : ReplayView) (front : List Entry) (e : Entry) (matches : Matc
     closed_decides h =
         let clock = clock_there h ∙ ap (λ b. clock_of (log_of old.config old.id h front) + cond b 1 0) closed in
         ap (λ d. new_decision h (decided_at old.config old.id front h) d)
-        (decided_same old.config old.ring old.id front e h (omega (arith, clock)))
+        (decided_same meaning old.config old.ring old.id front e h (omega (arith, clock)))
         ∙ same_new h (decided_at old.config old.id front h)
 
   module _ (opened : is_opened e.reply ≡ true) (part : Part) (r i clock : ℕ) where
@@ -202,7 +203,7 @@ module _ (old new : ReplayView) (front : List Entry) (e : Entry) (matches : Matc
     -- an open height isn't below the floor
     open_from : (h : ℕ) (row : InstanceView) → row_at old.rows h ≡ Some row → old.floor ≤ h
     open_from h row is = elim (cases_lt h old.floor) [
-      | inl below ↦ (let none = none_below old front matches h below in absurd (cc (sym none ∙ is)))
+      | inl below ↦ (let none = none_below meaning old front matches h below in absurd (cc (sym none ∙ is)))
       | inr from ↦ from
     ]
 
@@ -214,7 +215,7 @@ module _ (old new : ReplayView) (front : List Entry) (e : Entry) (matches : Matc
       where
         open_is : (b : Bool) → is_some (row_at old.rows h) ≡ b
             → is_undecided old.config old.id front h ≡ (b && is_none (decided_at old.config old.id front h))
-        open_is b is = ap (λ x. x && is_none (decided_at old.config old.id front h)) (sym (opened_there old front matches h) ∙ is)
+        open_is b is = ap (λ x. x && is_none (decided_at old.config old.id front h)) (sym (opened_there meaning old front matches h) ∙ is)
 
         of : (row : InstanceView) → row_at old.rows h ≡ Some row → (d : Option Value) → decided_at old.config old.id front h ≡ d
             → cond (is_undecided old.config old.id front h) (mark_if part r i clock h (decision_at old.config old.id (front ++ e ∷ []) h)) []

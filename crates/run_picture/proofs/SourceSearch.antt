@@ -10,7 +10,7 @@ use Rattle.std.proofs.lemmas.Option.{slice_get-get_or, slice_get_within, get_or_
 use Rattle.std.proofs.lemmas.Map.Keys.{any_passes_from_place}
 use Rattle.ledger_model.specs.Addressing.{goes_to}
 use Rattle.locked_replica.proofs.Found.{bytes_equal}
-use Rattle.ledger_model.specs.Applications.{same_bytes}
+use Rattle.ledger_model.specs.Values.{same_bytes}
 use Rattle.ledger_model.specs.Notes.{Has}
 use Rattle.ledger_model.specs.Pools.{is_among}
 use Rattle.ledger_model.proofs.Lists.{pointwise_refl, has_map, filter_has, has_index, each_at}

@@ -1,4 +1,5 @@
 -- How far histories are shown: each up to its first entry that breaks the replay.
+use Rattle.ledger_model.specs.Meanings.{Meanings}
 use Rattle.std.specs.Prelude.{◌≡◌, ◌⊎◌, ⊤, ℕ, ◌+◌, ◌<◌, ◌≤◌, nat_lt, Bool, ◌&&◌, List, [], ◌∷◌, length, take, Option, Some, None}
 use Rattle.std.specs.Prelude.{if◌then◌else◌}
 use Rattle.std.specs.Option.{is_none}
@@ -12,29 +13,30 @@ use Rattle.ledger_model.specs.Rules.{Ring}
 use Rattle.run_picture.specs.declared.history_break.HistoryBreak.{HistoryBreak}
 
 -- the first `count` entries are a replay, and they are all, or with the next they are none
-pub record IsLongestReplay (config : Config) (ring : Ring) (id : ℕ) (entries : List Entry) (count : ℕ) : Type 0 where
+pub record IsLongestReplay (meaning : Meanings) (config : Config) (ring : Ring) (id : ℕ) (entries : List Entry) (count : ℕ) : Type 0 where
   pub inside : count ≤ length entries
-  pub replay : Replay config ring id (take count entries)
-  pub ends : (count ≡ length entries) ⊎ (Replay config ring id (take (count + 1) entries) → ⊥)
+  pub replay : Replay meaning config ring id (take count entries)
+  pub ends : (count ≡ length entries) ⊎ (Replay meaning config ring id (take (count + 1) entries) → ⊥)
 
 -- what is shown of replica r's history, if it was handed in: its longest replay from the first entry on
-abbrev pub ShowsReplay : Config → Ring → ℕ → Option History → Option (List Entry) → Type 0
-ShowsReplay config ring r None None = ⊤
-ShowsReplay config ring r None (Some shown) = ⊥
-ShowsReplay config ring r (Some m) None = ⊥
-ShowsReplay config ring r (Some m) (Some shown) = (count : ℕ) × (IsLongestReplay config ring r m.entries count × (shown ≡ take count m.entries))
+abbrev pub ShowsReplay : Meanings → Config → Ring → ℕ → Option History → Option (List Entry) → Type 0
+ShowsReplay meaning config ring r None None = ⊤
+ShowsReplay meaning config ring r None (Some shown) = ⊥
+ShowsReplay meaning config ring r (Some m) None = ⊥
+ShowsReplay meaning config ring r (Some m) (Some shown) = (count : ℕ)
+    × (IsLongestReplay meaning config ring r m.entries count × (shown ≡ take count m.entries))
 
 -- what is shown of the replicas from r on
-abbrev pub ShowReplays : Config → Ring → List History → ℕ → List (Option (List Entry)) → Type 0
-ShowReplays config ring histories r [] = ⊤
-ShowReplays config ring histories r (row ∷ rows) =
-    ShowsReplay config ring r (history_of histories r) row × ShowReplays config ring histories (r + 1) rows
+abbrev pub ShowReplays : Meanings → Config → Ring → List History → ℕ → List (Option (List Entry)) → Type 0
+ShowReplays meaning config ring histories r [] = ⊤
+ShowReplays meaning config ring histories r (row ∷ rows) =
+    ShowsReplay meaning config ring r (history_of histories r) row × ShowReplays meaning config ring histories (r + 1) rows
 
 -- the histories of the replicas below n are replays, or this is where the first breaks
-abbrev pub FindsBreak : Config → Ring → List History → ℕ → Option HistoryBreak → Type 0
-FindsBreak config ring histories n None =
-    (r : ℕ) (m : History) → r < n → history_of histories r ≡ Some m → Replay config ring r m.entries
-FindsBreak config ring histories n (Some b) = (b.replica < n) × IsFirstBreak config ring histories b.replica b.entry
+abbrev pub FindsBreak : Meanings → Config → Ring → List History → ℕ → Option HistoryBreak → Type 0
+FindsBreak meaning config ring histories n None =
+    (r : ℕ) (m : History) → r < n → history_of histories r ≡ Some m → Replay meaning config ring r m.entries
+FindsBreak meaning config ring histories n (Some b) = (b.replica < n) × IsFirstBreak meaning config ring histories b.replica b.entry
 
 -- the first break, once `count` of all entries of replica r's history are shown
 abbrev pub break_after : Option HistoryBreak → ℕ → ℕ → ℕ → Option HistoryBreak

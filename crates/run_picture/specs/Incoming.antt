@@ -3,7 +3,7 @@ use Rattle.std.specs.Prelude.{◌≡◌, ℕ, ◌<◌, ◌≤◌, nat_lt, ◌==�
 use Rattle.std.specs.Prelude.{slice_get, slice_index_or}
 use Rattle.std.specs.List.{All, Contains, IsDistinct}
 use Rattle.ledger_model.specs.Addressing.{goes_to}
-use Rattle.ledger_model.specs.Applications.{same_bytes}
+use Rattle.ledger_model.specs.Values.{same_bytes}
 use Rattle.run_picture.specs.declared.sent_frames.SentFrame.{SentFrame}
 use Rattle.run_picture.specs.declared.incoming.IncomingFrame.{IncomingFrame}
 

@@ -1,4 +1,5 @@
 -- What a picture of a run shows.
+use Rattle.ledger_model.specs.Meanings.{Meanings}
 use Rattle.std.specs.Prelude.{◌≡◌, ℕ, List, length, map, Option, option_map}
 use Rattle.ledger_model.specs.declared.config.Config.{Config}
 use Rattle.ledger_model.specs.declared.history.Entry.{Entry}
@@ -44,10 +45,11 @@ all_retired part shown = shown_by (retired_in part) 0 shown
 
 -- What a picture of these histories' run shows in the part. Of each replica of the cluster it shows the longest replay that its history
 -- begins with; the first history that goes on after that is named.
-pub record IsPictureOf (cluster : Config) (ring : Ring) (histories : List History) (drawn : Part) (p : Picture) : Type 0 where
+pub record IsPictureOf (meaning : Meanings) (cluster : Config) (ring : Ring) (histories : List History) (drawn : Part)
+    (p : Picture) : Type 0 where
   pub shown : List (Option (List Entry))
   pub count : length shown ≡ cluster.replicas
-  pub replays : ShowReplays cluster ring histories 0 shown
+  pub replays : ShowReplays meaning cluster ring histories 0 shown
   pub config : p.config ≡ cluster
   pub part : p.part ≡ drawn
   pub rounds : p.rounds.items ≡ rounds_in shown
@@ -57,4 +59,4 @@ pub record IsPictureOf (cluster : Config) (ring : Ring) (histories : List Histor
   pub locks : p.locks.items ≡ locks_held p.sent.items
   pub decisions : p.decisions.items ≡ shown_decisions cluster drawn shown
   pub retired : p.retired.items ≡ all_retired drawn shown
-  pub breaks : FindsBreak cluster ring histories cluster.replicas p.first_break
+  pub breaks : FindsBreak meaning cluster ring histories cluster.replicas p.first_break

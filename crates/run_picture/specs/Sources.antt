@@ -7,7 +7,7 @@ use Rattle.std.specs.Prelude.{ℕ, nat_le, ◌==◌, Bool, ◌&&◌, List, map, 
 use Rattle.std.specs.List.{position, reduce}
 use Rattle.std.specs.Option.{option_or}
 use Rattle.ledger_model.specs.Addressing.{goes_to}
-use Rattle.ledger_model.specs.Applications.{same_bytes}
+use Rattle.ledger_model.specs.Values.{same_bytes}
 use Rattle.run_picture.specs.declared.sent_frames.SentFrame.{SentFrame}
 use Rattle.run_picture.specs.declared.deliveries.Delivery.{Delivery}
 use Rattle.run_picture.specs.declared.sources.Arrival.{Arrival}

@@ -24,7 +24,7 @@ pub(crate) fn deciding_heights<A: Application>(
     reply: &Reply,
 ) -> Result<Vec<Height>, AllocError>
     // This holds for every history that the replay matches.
-    ensures { IfOk result (λ heights. (front : List EntryValue) → MatchesHistory replay.now front
+    ensures { IfOk result (λ heights. (front : List EntryValue) → MatchesHistory A.meaning replay.now front
         → heights.items ≡ (if is_opened reply.now then undecided_heights replay.now.config replay.now.id front else [])) }
 {
     if is_opened(reply) {
@@ -66,7 +66,7 @@ pub(crate) fn add_decisions<A: Application>(
     heights: &[Height],
 ) -> Result<(), AllocError>
     // This holds for every history that the replay matches.
-    ensures { OnOk result ((entries : List EntryValue) → MatchesHistory replay.now entries
+    ensures { OnOk result ((entries : List EntryValue) → MatchesHistory A.meaning replay.now entries
         → out.new.items ≡ out.old.items ++ flat_map (λ h. mark_if part.now replica index clock h
         (decision_at replay.now.config replay.now.id entries h)) heights.now) }
 {

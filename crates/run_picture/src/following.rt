@@ -41,7 +41,7 @@ fn follow_entry<A: Application>(
     entry: &Entry,
 ) -> Result<bool, AllocError>
     requires { follower.old.lost ≡ false }
-    ensures follows { IfOk result (FollowsEntry part.now index entry.now follower.old follower.new marks.old marks.new) }
+    ensures follows { IfOk result (FollowsEntry A.meaning part.now index entry.now follower.old follower.new marks.old marks.new) }
     ensures same { IsSameReplay follower.old.replay follower.new.replay }
 {
     let replay = follower.replay();
@@ -83,9 +83,10 @@ fn follow_entries<A: Application>(
     part: &Part,
     entries: &[Entry],
 ) -> Result<usize, AllocError>
-    requires first { MatchesHistory follower.old.replay [] }
+    requires first { MatchesHistory A.meaning follower.old.replay [] }
     requires kept { follower.old.lost ≡ false }
-    ensures follows { IfOk result (FollowsHistory follower.old.replay.config follower.old.replay.ring part.now follower.old.replay.id entries.now
+    ensures follows { IfOk result (FollowsHistory A.meaning follower.old.replay.config follower.old.replay.ring part.now
+        follower.old.replay.id entries.now
         marks.old marks.new) }
     ensures same { IsSameReplay follower.old.replay follower.new.replay }
 {
@@ -110,8 +111,9 @@ pub(crate) fn follow_history<A: Application>(
     app: A,
 ) -> Result<usize, AllocError>
     requires member { replica < scope.now.config.replicas }
-    requires opening { A.machine app ≡ run scope.now.config.kind [] }
-    ensures follows { IfOk result (FollowsHistory scope.now.config verifier.old.ring scope.now.part replica entries.now marks.old marks.new) }
+    requires opening { A.machine app ≡ run A.meaning scope.now.config.kind [] }
+    ensures follows { IfOk result (FollowsHistory A.meaning scope.now.config verifier.old.ring scope.now.part replica entries.now marks.old
+        marks.new) }
     ensures ring { verifier.new.ring ≡ verifier.old.ring }
 {
     let ring = verifier.ring().copy()?;

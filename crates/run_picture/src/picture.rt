@@ -2,6 +2,7 @@
 ghost use Rattle.std.specs.Prelude.{◌≡◌, ◌≤◌, ◌<◌, ◌-◌, ◌^◌, [], List, length, IfOk, OnOk};
 ghost use Rattle.std.specs.List.{All, AllByRecursion};
 ghost use Rattle.std.specs.Option.{option_copied};
+ghost use Rattle.ledger_model.specs.Meanings.{Meanings};
 ghost use Rattle.ledger_model.specs.declared.history.History.{History as HistoryValue};
 ghost use Rattle.ledger_model.specs.Applications.{run};
 ghost use Rattle.ledger_model.specs.Lawful.{clock_at};
@@ -162,8 +163,9 @@ fn add_history<A: Application>(
     app: A,
 ) -> Result<(), AllocError>
     requires member { replica < scope.now.config.replicas }
-    requires opening { A.machine app ≡ run scope.now.config.kind [] }
-    ensures adds { OnOk result (AddsHistory scope.now.config verifier.old.ring scope.now.part replica entries.now collected.old collected.new) }
+    requires opening { A.machine app ≡ run A.meaning scope.now.config.kind [] }
+    ensures adds { OnOk result (AddsHistory A.meaning scope.now.config verifier.old.ring scope.now.part replica entries.now collected.old
+        collected.new) }
     ensures ring { verifier.new.ring ≡ verifier.old.ring }
 {
     let marks = &mut collected.marks;
@@ -186,8 +188,9 @@ fn add_row<A: Application>(
     app: A,
 ) -> Result<(), AllocError>
     requires member { replica < scope.now.config.replicas }
-    requires opening { A.machine app ≡ run scope.now.config.kind [] }
-    ensures adds { OnOk result (AddsRow scope.now.config verifier.old.ring scope.now.part replica (option_copied history.entry) collected.old collected.new) }
+    requires opening { A.machine app ≡ run A.meaning scope.now.config.kind [] }
+    ensures adds { OnOk result (AddsRow A.meaning scope.now.config verifier.old.ring scope.now.part replica
+        (option_copied history.entry) collected.old collected.new) }
     ensures ring { verifier.new.ring ≡ verifier.old.ring }
 {
     match history {
@@ -213,8 +216,8 @@ fn collect<A: Application>(
     apps: Vec<A>,
 ) -> Result<Collected, AllocError>
     requires enough { scope.now.config.replicas ≤ length apps.items }
-    requires opening { AllByRecursion (λ app. A.machine app ≡ run scope.now.config.kind []) apps.items }
-    ensures { IfOk result (Collects scope.now.config verifier.old.ring scope.now.part histories.now scope.now.config.replicas) }
+    requires opening { AllByRecursion (λ app. A.machine app ≡ run A.meaning scope.now.config.kind []) apps.items }
+    ensures { IfOk result (Collects A.meaning scope.now.config verifier.old.ring scope.now.part histories.now scope.now.config.replicas) }
 {
     let mut collected = nothing_collected(alloc);
     let mut apps = apps.into_iter();
@@ -239,8 +242,9 @@ fn collect<A: Application>(
 
 /// The picture of what was collected.
 fn picture_from(alloc: Global, scope: Scope, collected: Collected) -> Result<Picture, AllocError>
-    ensures { IfOk result (λ p. (ring : Ring) (histories : List HistoryValue)
-        → Collects scope.config ring scope.part histories scope.config.replicas collected → IsPictureOf scope.config ring histories scope.part p) }
+    ensures { IfOk result (λ p. (meaning : Meanings) (ring : Ring) (histories : List HistoryValue)
+        → Collects meaning scope.config ring scope.part histories scope.config.replicas collected
+        → IsPictureOf meaning scope.config ring histories scope.part p) }
 {
     let Scope {
         config,
@@ -293,8 +297,8 @@ pub fn picture_of<A: Application>(
     random: RandomState,
 ) -> Result<Picture, AllocError>
     requires enough { config.now.replicas ≤ length apps.items }
-    requires opening { All (λ app. A.machine app ≡ run config.now.kind []) apps.items }
-    ensures { IfOk result (IsPictureOf config.now ring.now histories.now part) }
+    requires opening { All (λ app. A.machine app ≡ run A.meaning config.now.kind []) apps.items }
+    ensures { IfOk result (IsPictureOf A.meaning config.now ring.now histories.now part) }
 {
     let mut verifier = shared_verifier(alloc, ring, histories, random)?;
     let scope = Scope {

@@ -1,4 +1,5 @@
 -- Histories only grow: whatever is played, the entries of a replica begin with those that it had.
+use Rattle.ledger_model.specs.Meanings.{Meanings}
 use Rattle.std.proofs.Common.{◌≡◌, ℕ, inl, inr, Bool, true, false, cond, List, [], ◌∷◌, ◌++◌, map, refl, sym, ap, subst, ◌∙◌}
 use Rattle.std.proofs.Common.{append_assoc, append-nil}
 use Rattle.std.specs.Prelude.{◌==◌, nat_le, Option, Some, None, option_map, Result, Ok, Err, MatchBool}
@@ -71,25 +72,26 @@ entry_grows w q e r = by (history_of w.histories r) refl
 
 -- ---- one step, and many
 
-step_grows : (config : Config) (ring : Ring) (w : World) (x : Result (ℕ × Event) WorldRefusal) (a : WorldReply) (v : World)
-    → StepsBy config ring w x a v → GrowsTo w v
-step_grows config ring w (Err f) a v none = same_grows w v none.1
-step_grows config ring w (Ok (r, e)) a v steps = by (nat_le max_history_len _) refused.HistoryFull steps
+step_grows : (meaning : Meanings) (config : Config) (ring : Ring) (w : World) (x : Result (ℕ × Event) WorldRefusal) (a : WorldReply)
+    (v : World)
+    → StepsBy meaning config ring w x a v → GrowsTo w v
+step_grows meaning config ring w (Err f) a v none = same_grows w v none.1
+step_grows meaning config ring w (Ok (r, e)) a v steps = by (nat_le max_history_len _) refused.HistoryFull steps
   where
-    added : Adds config ring w r e a v → GrowsTo w v
+    added : Adds meaning config ring w r e a v → GrowsTo w v
     added (inl (given, lawful, answered, new)) = subst (GrowsTo w) (sym new) (entry_grows w r _)
     added (inr none) = same_grows w v none.1
 
-    by : (b : Bool) (f : WorldRefusal) → MatchBool b (Refuses w f a v) (Adds config ring w r e a v) → GrowsTo w v
+    by : (b : Bool) (f : WorldRefusal) → MatchBool b (Refuses w f a v) (Adds meaning config ring w r e a v) → GrowsTo w v
     by true f full = same_grows w v full.1
     by false f adds = added adds
 
-pub runs_grow : (config : Config) (ring : Ring) (w v : World) (steps : List WorldStep) (answers : List WorldReply)
-    → Runs config ring w steps answers v → GrowsTo w v
+pub runs_grow : (meaning : Meanings) (config : Config) (ring : Ring) (w v : World) (steps : List WorldStep) (answers : List WorldReply)
+    → Runs meaning config ring w steps answers v → GrowsTo w v
 unfolding Runs
-runs_grow config ring w v [] [] run = same_grows w v run
-runs_grow config ring w v [] (a ∷ answers) run = absurd run
-runs_grow config ring w v (s ∷ steps) [] run = absurd run
-runs_grow config ring w v (s ∷ steps) (a ∷ answers) run =
-    grows_on w (run.0) v (step_grows config ring w (event_of config w s) a (run.0) (run.1))
-    (runs_grow config ring (run.0) v steps answers (run.2))
+runs_grow meaning config ring w v [] [] run = same_grows w v run
+runs_grow meaning config ring w v [] (a ∷ answers) run = absurd run
+runs_grow meaning config ring w v (s ∷ steps) [] run = absurd run
+runs_grow meaning config ring w v (s ∷ steps) (a ∷ answers) run =
+    grows_on w (run.0) v (step_grows meaning config ring w (event_of config w s) a (run.0) (run.1))
+    (runs_grow meaning config ring (run.0) v steps answers (run.2))

@@ -1,5 +1,6 @@
 -- The index of reports: a lookup among the reports of the lie's height and phase finds what a walk over all frames finds, and the index
 -- of a cluster stays an index of it as the cluster goes on.
+use Rattle.ledger_model.specs.Meanings.{Meanings}
 use Rattle.std.proofs.Common.{◌≡◌, ℕ, ◌+◌, ◌≤◌, Bool, true, false, cond, ◌&&◌, List, [], ◌∷◌, ◌++◌, length, take, map, refl, sym, ap, subst}
 use Rattle.std.proofs.Common.{◌∙◌, drop, inl, inr, arith, length-append, append_assoc, append-nil}
 use Rattle.std.specs.Prelude.{Option, Some, None, filter, slice_get, slice_index_or, option_and_then}
@@ -207,11 +208,12 @@ index_longer index new list c lies is longer same seen none = record {
 }
 
 -- as the cluster goes on
-pub index_later : (index : ReportIndex) (c d : WorldView) (lies : List (List ℕ)) → IsIndexOf index c lies → IsReachedByRun c d
+pub index_later : (meaning : Meanings) (index : ReportIndex) (c d : WorldView) (lies : List (List ℕ)) → IsIndexOf index c lies
+    → IsReachedByRun meaning c d
     → IsIndexOf index d lies
-index_later index c d lies is goes = record {
+index_later meaning index c d lies is goes = record {
   sent = λ r none below.
-      let (more, longer) = runs_grow c.config c.ring (world_of c) (world_of d) goes.steps goes.answers goes.runs r in
+      let (more, longer) = runs_grow meaning c.config c.ring (world_of c) (world_of d) goes.steps goes.answers goes.runs r in
       subst (CoversHistory (slice_index_or index.sent.items r none)) (sym longer)
       (history_later (slice_index_or index.sent.items r none) (entries_in (world_of c) r) more (is.sent r none below));
   signed = is.signed;

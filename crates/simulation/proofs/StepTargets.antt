@@ -1,4 +1,5 @@
 -- Which replica a step went to: an entry is added at the replica that the step addresses, which is correct.
+use Rattle.ledger_model.specs.Meanings.{Meanings}
 use Rattle.std.proofs.Common.{◌≡◌, inl, inr, ℕ, Bool, true, false, List, [], length, refl, sym, ap}
 use Rattle.std.specs.Prelude.{Option, Some, None, Result, Ok, Err, is_some, nat_lt, nat_le, ◌&&◌, slice_get, MatchBool}
 use Rattle.ledger_model.specs.Limits.{max_history_len}
@@ -16,13 +17,14 @@ use Rattle.ledger_model.specs.Worlds.{World, entries_in, frames_sent, asks, pass
 use Rattle.simulation.specs.Playing.{target}
 
 -- the event was at the replica
-asked_at : (config : Config) (ring : Ring) (w new : World) (asked : Result (ℕ × Event) WorldRefusal) (r i : ℕ)
-    → StepsBy config ring w asked (answer.Done r i) new → (e : Event) × (asked ≡ Ok (r, e))
-asked_at config ring w new (Err f) r i steps = absurd (let no = steps.0 in cc)
-asked_at config ring w new (Ok (q, e)) r i steps = in_room (nat_le max_history_len (length (entries_in w q))) steps
+asked_at : (meaning : Meanings) (config : Config) (ring : Ring) (w new : World) (asked : Result (ℕ × Event) WorldRefusal) (r i : ℕ)
+    → StepsBy meaning config ring w asked (answer.Done r i) new → (e : Event) × (asked ≡ Ok (r, e))
+asked_at meaning config ring w new (Err f) r i steps = absurd (let no = steps.0 in cc)
+asked_at meaning config ring w new (Ok (q, e)) r i steps = in_room (nat_le max_history_len (length (entries_in w q))) steps
   where
     in_room : (full : Bool) → MatchBool full (Refuses w refused.HistoryFull (answer.Done r i) new)
-        (Adds config ring w q e (answer.Done r i) new) → (e' : Event) × (◌≡◌ {A = Result (ℕ × Event) WorldRefusal} (Ok (q, e)) (Ok (r, e')))
+        (Adds meaning config ring w q e (answer.Done r i) new) → (e' : Event)
+        × (◌≡◌ {A = Result (ℕ × Event) WorldRefusal} (Ok (q, e)) (Ok (r, e')))
     in_room true refuses = absurd (let no = refuses.0 in cc)
     in_room false (inl (given, lawful, is, added)) = (e, (let same = is in cc))
     in_room false (inr refuses) = absurd (let no = refuses.0 in cc)
@@ -60,10 +62,11 @@ two_named config w from index to r found is =
     by true true true (Some bytes) b f s g is = (sym (ap (λ (x : ℕ × Event). x.0) (pair (rw (b, f, s, g) at is))), s)
 
 -- an entry is added where the step is for, at a correct replica
-pub done_at : (config : Config) (ring : Ring) (w new : World) (s : WorldStep) (r i : ℕ)
-    → StepsBy config ring w (event_of config w s) (answer.Done r i) new → (r ≡ target s) × (is_correct w.histories (target s) ≡ true)
+pub done_at : (meaning : Meanings) (config : Config) (ring : Ring) (w new : World) (s : WorldStep) (r i : ℕ)
+    → StepsBy meaning config ring w (event_of config w s) (answer.Done r i) new → (r ≡ target s)
+    × (is_correct w.histories (target s) ≡ true)
 unfolding event_of
-done_at config ring w new s r i steps = by s (asked_at config ring w new (event_of config w s) r i steps)
+done_at meaning config ring w new s r i steps = by s (asked_at meaning config ring w new (event_of config w s) r i steps)
   where
     by : (s : WorldStep) → (e : Event) × (event_of config w s ≡ Ok (r, e)) → (r ≡ target s) × (is_correct w.histories (target s) ≡ true)
     by (step.Submit q bytes) found = one_named config w q r _ found.0 found.1

@@ -1,4 +1,5 @@
 -- What each command of a scenario does to a cluster, and what is printed for it.
+use Rattle.ledger_model.specs.Meanings.{Meanings}
 use Rattle.std.specs.Prelude.{◌≡◌, ◌⊎◌, MatchBool, ℕ, ◌+◌, ◌==◌, nat_lt, Bool, true, false, not, List, [], ◌∷◌, ◌++◌, length, map}
 use Rattle.std.specs.Prelude.{filter, take, Option, Some, None, Result, Ok, Err, codes, slice_get, if◌then◌else◌}
 use Rattle.std.specs.List.{filter_map, range_with_len}
@@ -49,18 +50,20 @@ simulation_of c lies = record { cluster = c; lies = lies }
 -- ---- steps
 
 -- the step was taken, and this text is printed for it
-pub record Steps (print : Config → World → WorldReply → World → List ℕ) (c : WorldView) (s : WorldStep) (text : List ℕ) (d : WorldView) :
+pub record Steps (meaning : Meanings) (print : Config → World → WorldReply → World → List ℕ) (c : WorldView) (s : WorldStep) (text : List ℕ)
+    (d : WorldView) :
     Type 0 where
   pub given : WorldReply
-  pub answered : IsAnswered c s given d
+  pub answered : IsAnswered meaning c s given d
   pub printed : text ≡ print c.config (world_of c) given (world_of d)
 
 -- these steps were taken, one after another
-unfoldable pub StepsEach : (Config → World → WorldReply → World → List ℕ) → WorldView → List WorldStep → List ℕ → WorldView → Type 0
-StepsEach print c [] text d = (text ≡ []) × (d ≡ c)
-StepsEach print c (s ∷ ss) text d =
+unfoldable pub StepsEach : Meanings → (Config → World → WorldReply → World → List ℕ) → WorldView → List WorldStep → List ℕ → WorldView
+    → Type 0
+StepsEach meaning print c [] text d = (text ≡ []) × (d ≡ c)
+StepsEach meaning print c (s ∷ ss) text d =
     (mid : WorldView) × ((first : List ℕ) × ((rest : List ℕ)
-    × (Steps print c s first mid × StepsEach print mid ss rest d × (text ≡ first ++ rest))))
+    × (Steps meaning print c s first mid × StepsEach meaning print mid ss rest d × (text ≡ first ++ rest))))
 
 -- the correct replicas of the cluster, in ascending order of their numbers
 abbrev pub correct_in : WorldView → List ℕ
@@ -94,11 +97,11 @@ passes_of correct before (answer.Done r i) new = passes_from correct r before (s
 
 -- these replicas end their rounds one after another; this text is printed, and these are the passes of what they sent
 -- to the correct replicas
-unfoldable pub EndsEach : List ℕ → WorldView → List ℕ → List ℕ → List WorldStep → WorldView → Type 0
-EndsEach correct c [] text passes d = (text ≡ []) × (passes ≡ []) × (d ≡ c)
-EndsEach correct c (r ∷ rs) text passes d =
+unfoldable pub EndsEach : Meanings → List ℕ → WorldView → List ℕ → List ℕ → List WorldStep → WorldView → Type 0
+EndsEach meaning correct c [] text passes d = (text ≡ []) × (passes ≡ []) × (d ≡ c)
+EndsEach meaning correct c (r ∷ rs) text passes d =
     (mid : WorldView) × ((first : List ℕ) × ((rest : List ℕ) × ((more : List WorldStep)
-    × ((end : Steps step_text c (step.RoundEnd r) first mid) × EndsEach correct mid rs rest more d
+    × ((end : Steps meaning step_text c (step.RoundEnd r) first mid) × EndsEach meaning correct mid rs rest more d
     × (text ≡ first ++ rest) × (passes ≡ passes_of correct (length (frames_sent (entries_in (world_of c) r))) end.given (world_of mid)
     ++ more)))))
 
@@ -121,24 +124,24 @@ abbrev pub pass_text : Config → World → WorldReply → World → List ℕ
 pass_text config w given new = if is_accepting given new then [] else step_text config w given new
 
 -- each correct replica ends its round, and then each frame that was sent is passed to its addressees
-pub record PlaysRound (c : WorldView) (text : List ℕ) (d : WorldView) : Type 0 where
+pub record PlaysRound (meaning : Meanings) (c : WorldView) (text : List ℕ) (d : WorldView) : Type 0 where
   pub ends : List ℕ
   pub passes : List WorldStep
   pub mid : WorldView
   pub passed : List ℕ
-  pub ended : EndsEach (correct_in c) c (correct_in c) ends passes mid
-  pub delivered : StepsEach pass_text mid passes passed d
+  pub ended : EndsEach meaning (correct_in c) c (correct_in c) ends passes mid
+  pub delivered : StepsEach meaning pass_text mid passes passed d
   pub printed : text ≡ ends ++ passed
 
 -- ---- the state of the application
 
 -- `info R H` and the hash, or why the step may not name the replica
-abbrev pub info_text : Config → World → ℕ → List ℕ
-info_text config w r = unless (fault_at config w r)
+abbrev pub info_text : Meanings → Config → World → ℕ → List ℕ
+info_text meaning config w r = unless (fault_at config w r)
   where
     unless : Option WorldRefusal → List ℕ
     unless (Some why) = with_line_feed (refusal_text why)
-    unless None = with_line_feed (told_text r (info_reply config.kind (commits_of config r (entries_in w r))))
+    unless None = with_line_feed (told_text r (info_reply meaning config.kind (commits_of config r (entries_in w r))))
 
 -- ---- lies
 
@@ -172,10 +175,11 @@ abbrev pub Signed : WorldView → ℕ → Statement → Result (List ℕ) SignFa
 Signed c liar said given d = SignsFor (λ x. x) c liar (statement_bytes said) given d
 
 -- the liar signs the statement, and its frame is injected
-pub record TellsLie (l : Lie) (c : WorldView) (said : Statement) (signature : List ℕ) (text : List ℕ) (d : WorldView) : Type 0 where
+pub record TellsLie (meaning : Meanings) (l : Lie) (c : WorldView) (said : Statement) (signature : List ℕ) (text : List ℕ)
+    (d : WorldView) : Type 0 where
   pub mid : WorldView
   pub signs : Signed c l.liar said (Ok signature) mid
-  pub injected : StepsEach step_text mid
+  pub injected : StepsEach meaning step_text mid
       (injections_to (lie_receivers mid l.to) (frame_bytes (record { statement = said; signature = signature }))) text d
 
 -- the frame of a statement and its signature
@@ -183,36 +187,36 @@ abbrev pub frame_with : Statement → List ℕ → List ℕ
 frame_with said signature = frame_bytes (record { statement = said; signature = signature })
 
 -- the outcome of a lie that a liar is asked to sign: it is told, or no leaf is left
-abbrev pub EndsLie : Lie → Statement → SimulationView → Result (List ℕ) SignFault → List ℕ → SimulationView → Type 0
-EndsLie l said p (Ok signature) text q =
-    TellsLie l p.cluster said signature text q.cluster × (q.lies ≡ p.lies ++ frame_with said signature ∷ [])
-EndsLie l said p (Err sign.Exhausted) text q =
+abbrev pub EndsLie : Meanings → Lie → Statement → SimulationView → Result (List ℕ) SignFault → List ℕ → SimulationView → Type 0
+EndsLie meaning l said p (Ok signature) text q =
+    TellsLie meaning l p.cluster said signature text q.cluster × (q.lies ≡ p.lies ++ frame_with said signature ∷ [])
+EndsLie meaning l said p (Err sign.Exhausted) text q =
     Signed p.cluster l.liar said (Err sign.Exhausted) q.cluster × (q.lies ≡ p.lies) × (text ≡ with_line_feed (codes "exhausted"))
-EndsLie l said p (Err sign.NoMemory) text q = ⊥
+EndsLie meaning l said p (Err sign.NoMemory) text q = ⊥
 
 -- a liar tells the lie; a replica that is not a liar tells none
-abbrev pub Lies : Lie → Statement → SimulationView → List ℕ → SimulationView → Type 0
-Lies l said p text q =
-    ((given : Result (List ℕ) SignFault) × EndsLie l said p given text q)
+abbrev pub Lies : Meanings → Lie → Statement → SimulationView → List ℕ → SimulationView → Type 0
+Lies meaning l said p text q =
+    ((given : Result (List ℕ) SignFault) × EndsLie meaning l said p given text q)
     ⊎ ((liar_at p.cluster l.liar ≡ None) × (q ≡ p) × (text ≡ []))
 
 -- a liar tells a lock with this proof, if there are enough serving reports; otherwise the text is that it cannot
-abbrev pub LiesLock : Lie → List SignedReport → List ℕ → SimulationView → List ℕ → SimulationView → Type 0
-LiesLock l proof cannot p text q =
+abbrev pub LiesLock : Meanings → Lie → List SignedReport → List ℕ → SimulationView → List ℕ → SimulationView → Type 0
+LiesLock meaning l proof cannot p text q =
     MatchBool (nat_lt (length proof) (quorum p.cluster.config))
     ((text ≡ cannot) × (q ≡ p))
-    (Lies l (statement.Lock (lying_lock l proof)) p text q)
+    (Lies meaning l (statement.Lock (lying_lock l proof)) p text q)
 
 -- ---- commands
 
 -- a command that stands for a step
-abbrev pub PlaysStep : SimulationView → WorldStep → List ℕ → SimulationView → Type 0
-PlaysStep p s text q = Steps step_text p.cluster s text q.cluster × (q.lies ≡ p.lies)
+abbrev pub PlaysStep : Meanings → SimulationView → WorldStep → List ℕ → SimulationView → Type 0
+PlaysStep meaning p s text q = Steps meaning step_text p.cluster s text q.cluster × (q.lies ≡ p.lies)
 
 -- each correct replica ends its round, and nothing is passed on
-abbrev pub PlaysSilent : SimulationView → List ℕ → SimulationView → Type 0
-PlaysSilent p text q = (passes : List WorldStep)
-    × (EndsEach (correct_in p.cluster) p.cluster (correct_in p.cluster) text passes q.cluster × (q.lies ≡ p.lies))
+abbrev pub PlaysSilent : Meanings → SimulationView → List ℕ → SimulationView → Type 0
+PlaysSilent meaning p text q = (passes : List WorldStep)
+    × (EndsEach meaning (correct_in p.cluster) p.cluster (correct_in p.cluster) text passes q.cluster × (q.lies ≡ p.lies))
 
 -- the step of the world that a command stands for, if it stands for one
 abbrev pub step_of : Command → Option WorldStep
@@ -227,30 +231,32 @@ step_of (command.Retire r floor) = Some (step.Retire (replica_named r) floor)
 step_of _ = None
 
 -- what the other commands do, and what is printed for them
-abbrev pub PlaysOther : SimulationView → Command → List ℕ → SimulationView → Type 0
-PlaysOther p (command.Info r) text q = (text ≡ info_text p.cluster.config (world_of p.cluster) (replica_named r)) × (q ≡ p)
-PlaysOther p command.Silent text q = PlaysSilent p text q
-PlaysOther p command.Round text q = PlaysRound p.cluster text q.cluster × (q.lies ≡ p.lies)
-PlaysOther p (command.LieReport l) text q = Lies l (statement.Report (lying_report l)) p text q
-PlaysOther p (command.LieLock l) text q = LiesLock l (proof_for p l l.phase) (with_line_feed (codes "lie-lock cannot")) p text q
-PlaysOther p (command.LieStale l k) text q = LiesLock l (proof_for p l k) (with_line_feed (codes "lie-stale cannot")) p text q
-PlaysOther p (command.LieAck l) text q = Lies l (statement.Ack (lying_ack l)) p text q
-PlaysOther p _ text q = ⊥
+abbrev pub PlaysOther : Meanings → SimulationView → Command → List ℕ → SimulationView → Type 0
+PlaysOther meaning p (command.Info r) text q = (text ≡ info_text meaning p.cluster.config (world_of p.cluster) (replica_named r)) × (q ≡ p)
+PlaysOther meaning p command.Silent text q = PlaysSilent meaning p text q
+PlaysOther meaning p command.Round text q = PlaysRound meaning p.cluster text q.cluster × (q.lies ≡ p.lies)
+PlaysOther meaning p (command.LieReport l) text q = Lies meaning l (statement.Report (lying_report l)) p text q
+PlaysOther meaning p (command.LieLock l) text q = LiesLock meaning l (proof_for p l l.phase)
+    (with_line_feed (codes "lie-lock cannot")) p text q
+PlaysOther meaning p (command.LieStale l k) text q = LiesLock meaning l (proof_for p l k)
+    (with_line_feed (codes "lie-stale cannot")) p text q
+PlaysOther meaning p (command.LieAck l) text q = Lies meaning l (statement.Ack (lying_ack l)) p text q
+PlaysOther meaning p _ text q = ⊥
 
 -- what a command does, and what is printed for it
-unfoldable pub Plays : SimulationView → Command → List ℕ → SimulationView → Type 0
-Plays p c text q = by_step (step_of c)
+unfoldable pub Plays : Meanings → SimulationView → Command → List ℕ → SimulationView → Type 0
+Plays meaning p c text q = by_step (step_of c)
   where
     by_step : Option WorldStep → Type 0
-    by_step (Some s) = PlaysStep p s text q
-    by_step None = PlaysOther p c text q
+    by_step (Some s) = PlaysStep meaning p s text q
+    by_step None = PlaysOther meaning p c text q
 
 -- what commands do, one after another
-unfoldable pub PlaysAll : SimulationView → List Command → List ℕ → SimulationView → Type 0
-PlaysAll p [] text q = (text ≡ []) × (q ≡ p)
-PlaysAll p (c ∷ cs) text q =
+unfoldable pub PlaysAll : Meanings → SimulationView → List Command → List ℕ → SimulationView → Type 0
+PlaysAll meaning p [] text q = (text ≡ []) × (q ≡ p)
+PlaysAll meaning p (c ∷ cs) text q =
     (mid : SimulationView) × ((first : List ℕ)
-    × ((rest : List ℕ) × (Plays p c first mid × PlaysAll mid cs rest q × (text ≡ first ++ rest))))
+    × ((rest : List ℕ) × (Plays meaning p c first mid × PlaysAll meaning mid cs rest q × (text ≡ first ++ rest))))
 
 -- ---- the results of calls
 
@@ -271,9 +277,10 @@ answer_text config before (answer.Refused why) new = with_line_feed (refusal_tex
 answer_text config before (answer.Done r i) new = entry_text config r before (entries_in new r) (slice_get (entries_in new r) i)
 
 -- the step was taken with this reply, and its text was appended
-pub record PrintsStep (print : Config → World → WorldReply → World → List ℕ) (c : WorldView) (s : WorldStep) (given : WorldReply)
+pub record PrintsStep (meaning : Meanings) (print : Config → World → WorldReply → World → List ℕ) (c : WorldView) (s : WorldStep)
+    (given : WorldReply)
     (d : WorldView) (before after : List ℕ) : Type 0 where
-  pub answered : IsAnswered c s given d
+  pub answered : IsAnswered meaning c s given d
   pub printed : after ≡ before ++ print c.config (world_of c) given (world_of d)
 
 -- the result of asking a liar to sign
@@ -283,18 +290,19 @@ IsSigning c liar said signing.Exhausted d = Signed c liar said (Err sign.Exhaust
 IsSigning c liar said signing.NoLiar d = (liar_at c liar ≡ None) × (d ≡ c)
 
 -- the replica ends its round; its text, and the passes of what it sent, were appended
-pub record EndsRound (correct : List ℕ) (c : WorldView) (r : ℕ) (before after : List ℕ) (passes more : List WorldStep) (d : WorldView) : Type 0
+pub record EndsRound (meaning : Meanings) (correct : List ℕ) (c : WorldView) (r : ℕ) (before after : List ℕ) (passes more : List WorldStep)
+    (d : WorldView) : Type 0
   where
     pub text : List ℕ
-    pub end : Steps step_text c (step.RoundEnd r) text d
+    pub end : Steps meaning step_text c (step.RoundEnd r) text d
     pub printed : after ≡ before ++ text
     pub passed : more ≡ passes ++ passes_of correct (length (frames_sent (entries_in (world_of c) r))) end.given (world_of d)
 
 -- whatever the command, steps of the definitions lead from the old cluster to the new one, which has the same
 -- configuration and keys
-pub record IsReachedByRun (c d : WorldView) : Type 0 where
+pub record IsReachedByRun (meaning : Meanings) (c d : WorldView) : Type 0 where
   pub steps : List WorldStep
   pub answers : List WorldReply
-  pub runs : Runs c.config c.ring (world_of c) steps answers (world_of d)
+  pub runs : Runs meaning c.config c.ring (world_of c) steps answers (world_of d)
   pub config : d.config ≡ c.config
   pub ring : d.ring ≡ c.ring

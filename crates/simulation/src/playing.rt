@@ -49,8 +49,8 @@ impl<A: Application> Simulation<A> {
 
     /// Takes a step, and appends its lines.
     fn play_step(&mut self, step: &WorldStep, out: &mut Text) -> Result<(), AllocError>
-        ensures done { OnOk result ((text : List ℕ) × (PlaysStep self.old step.now text self.new × (out.new ≡ out.old ++ text))) }
-        ensures goes_on { IsReachedByRun self.old.cluster self.new.cluster }
+        ensures done { OnOk result ((text : List ℕ) × (PlaysStep A.meaning self.old step.now text self.new × (out.new ≡ out.old ++ text))) }
+        ensures goes_on { IsReachedByRun A.meaning self.old.cluster self.new.cluster }
     {
         self.step(step, out)?;
         Ok(())
@@ -58,7 +58,7 @@ impl<A: Application> Simulation<A> {
 
     /// Appends the line about a replica's application.
     fn add_info(&self, replica: ReplicaId, out: &mut Text) -> Result<(), AllocError>
-        ensures { OnOk result (out.new ≡ out.old ++ info_text self.now.cluster.config (world_of self.now.cluster) replica) }
+        ensures { OnOk result (out.new ≡ out.old ++ info_text A.meaning self.now.cluster.config (world_of self.now.cluster) replica) }
     {
         match self.world.info(replica) {
             Ok(info) => add_info(out, replica, &info),
@@ -70,8 +70,9 @@ impl<A: Application> Simulation<A> {
     #[tactic(auto, using(crate::proofs::StepLemmas::stays))]
     fn play_other(&mut self, command: &Command, out: &mut Text) -> Result<(), AllocError>
         requires { step_of command.now ≡ None }
-        ensures done { OnOk result ((text : List ℕ) × (PlaysOther self.old command.now text self.new × (out.new ≡ out.old ++ text))) }
-        ensures goes_on { IsReachedByRun self.old.cluster self.new.cluster }
+        ensures done { OnOk result ((text : List ℕ) × (PlaysOther A.meaning self.old command.now text self.new
+            × (out.new ≡ out.old ++ text))) }
+        ensures goes_on { IsReachedByRun A.meaning self.old.cluster self.new.cluster }
     {
         match command {
             Command::Info { replica } => self.add_info(named(*replica), out),
@@ -90,8 +91,8 @@ impl<A: Application> Simulation<A> {
     /// Plays a command, and appends its lines.
     #[tactic(auto, using(crate::proofs::StepLemmas::stays))]
     fn play_into(&mut self, command: &Command, out: &mut Text) -> Result<(), AllocError>
-        ensures done { OnOk result ((text : List ℕ) × (Plays self.old command.now text self.new × (out.new ≡ out.old ++ text))) }
-        ensures goes_on { IsReachedByRun self.old.cluster self.new.cluster }
+        ensures done { OnOk result ((text : List ℕ) × (Plays A.meaning self.old command.now text self.new × (out.new ≡ out.old ++ text))) }
+        ensures goes_on { IsReachedByRun A.meaning self.old.cluster self.new.cluster }
     {
         match step_of(command)? {
             Some(step) => self.play_step(&step, out),
@@ -103,9 +104,9 @@ impl<A: Application> Simulation<A> {
     ///
     /// The only error is allocation failure. The steps that were taken before it stay taken.
     pub fn play(&mut self, command: &Command) -> Result<Text, AllocError>
-        ensures plays { IfOk result (λ text. Plays self.old command.now text self.new) }
+        ensures plays { IfOk result (λ text. Plays A.meaning self.old command.now text self.new) }
         // Whatever is returned, steps of the definitions lead from the old world to the new one.
-        ensures goes_on { IsReachedByRun self.old.cluster self.new.cluster }
+        ensures goes_on { IsReachedByRun A.meaning self.old.cluster self.new.cluster }
     {
         let mut text = Text::new(self.allocator());
         self.play_into(command, &mut text)?;

@@ -142,9 +142,10 @@ impl<A: Application> Simulation<A> {
         passes: &mut Vec<WorldStep>,
         out: &mut Text,
     ) -> Result<(), AllocError>
-        ensures done { OnOk result (EndsRound correct.now self.old.cluster replica out.old out.new passes.old.items passes.new.items self.new.cluster) }
+        ensures done { OnOk result (EndsRound A.meaning correct.now self.old.cluster replica out.old out.new passes.old.items
+            passes.new.items self.new.cluster) }
         ensures lies { self.new.lies ≡ self.old.lies }
-        ensures goes_on { IsReachedByRun self.old.cluster self.new.cluster }
+        ensures goes_on { IsReachedByRun A.meaning self.old.cluster self.new.cluster }
     {
         let before = self.world.frames_sent(replica);
         let answer = self.step(&WorldStep::RoundEnd(replica), out)?;
@@ -159,10 +160,10 @@ impl<A: Application> Simulation<A> {
         out: &mut Text,
     ) -> Result<(), AllocError>
         ensures done { OnOk result ((text : List ℕ) × ((more : List WorldStep)
-            × (EndsEach correct.now self.old.cluster correct.now text more self.new.cluster
+            × (EndsEach A.meaning correct.now self.old.cluster correct.now text more self.new.cluster
             × (out.new ≡ out.old ++ text) × (passes.new.items ≡ passes.old.items ++ more)))) }
         ensures lies { self.new.lies ≡ self.old.lies }
-        ensures goes_on { IsReachedByRun self.old.cluster self.new.cluster }
+        ensures goes_on { IsReachedByRun A.meaning self.old.cluster self.new.cluster }
     {
         for replica in correct {
             self.end(correct, *replica, passes, out)?;
@@ -173,10 +174,10 @@ impl<A: Application> Simulation<A> {
     /// Each correct replica ends its round. Appends their lines, and the passes of what they sent.
     fn end_all(&mut self, passes: &mut Vec<WorldStep>, out: &mut Text) -> Result<(), AllocError>
         ensures done { OnOk result ((text : List ℕ) × ((more : List WorldStep)
-            × (EndsEach (correct_in self.old.cluster) self.old.cluster (correct_in self.old.cluster) text more self.new.cluster
+            × (EndsEach A.meaning (correct_in self.old.cluster) self.old.cluster (correct_in self.old.cluster) text more self.new.cluster
             × (out.new ≡ out.old ++ text) × (passes.new.items ≡ passes.old.items ++ more)))) }
         ensures lies { self.new.lies ≡ self.old.lies }
-        ensures goes_on { IsReachedByRun self.old.cluster self.new.cluster }
+        ensures goes_on { IsReachedByRun A.meaning self.old.cluster self.new.cluster }
     {
         let correct = self.correct()?;
         self.end_each(&correct, passes, out)
@@ -185,9 +186,9 @@ impl<A: Application> Simulation<A> {
     /// Takes each of these passes.
     fn pass_each(&mut self, passes: &[WorldStep], out: &mut Text) -> Result<(), AllocError>
         ensures done { OnOk result ((text : List ℕ)
-            × (StepsEach pass_text self.old.cluster passes.now text self.new.cluster × (out.new ≡ out.old ++ text))) }
+            × (StepsEach A.meaning pass_text self.old.cluster passes.now text self.new.cluster × (out.new ≡ out.old ++ text))) }
         ensures lies { self.new.lies ≡ self.old.lies }
-        ensures goes_on { IsReachedByRun self.old.cluster self.new.cluster }
+        ensures goes_on { IsReachedByRun A.meaning self.old.cluster self.new.cluster }
     {
         for step in passes {
             self.pass(step, out)?;
@@ -197,8 +198,8 @@ impl<A: Application> Simulation<A> {
 
     /// Each correct replica ends its round, and nothing is passed on.
     pub(crate) fn play_silent(&mut self, out: &mut Text) -> Result<(), AllocError>
-        ensures done { OnOk result ((text : List ℕ) × (PlaysSilent self.old text self.new × (out.new ≡ out.old ++ text))) }
-        ensures goes_on { IsReachedByRun self.old.cluster self.new.cluster }
+        ensures done { OnOk result ((text : List ℕ) × (PlaysSilent A.meaning self.old text self.new × (out.new ≡ out.old ++ text))) }
+        ensures goes_on { IsReachedByRun A.meaning self.old.cluster self.new.cluster }
     {
         let mut passes = Vec::new(self.allocator());
         self.end_all(&mut passes, out)
@@ -206,9 +207,10 @@ impl<A: Application> Simulation<A> {
 
     /// Each correct replica ends its round, and then each frame that was sent is passed to its addressees.
     pub(crate) fn play_round(&mut self, out: &mut Text) -> Result<(), AllocError>
-        ensures done { OnOk result ((text : List ℕ) × (PlaysRound self.old.cluster text self.new.cluster × (out.new ≡ out.old ++ text))) }
+        ensures done { OnOk result ((text : List ℕ) × (PlaysRound A.meaning self.old.cluster text self.new.cluster
+            × (out.new ≡ out.old ++ text))) }
         ensures lies { self.new.lies ≡ self.old.lies }
-        ensures goes_on { IsReachedByRun self.old.cluster self.new.cluster }
+        ensures goes_on { IsReachedByRun A.meaning self.old.cluster self.new.cluster }
     {
         let mut passes = Vec::new(self.allocator());
         self.end_all(&mut passes, out)?;

@@ -59,8 +59,9 @@ impl<A: Application> Simulation<A> {
     ) -> Result<Self, WorldFault>
         requires apps { MayLie cluster.now.config liars.now → vec_len apps ≡ length (correct_without cluster.now.config liars.now) }
         requires randoms { MayLie cluster.now.config liars.now → vec_len randoms ≡ length (correct_without cluster.now.config liars.now) }
-        requires opening { All (λ app. A.machine app ≡ run cluster.now.config.kind []) apps.items }
-        ensures new { IfOk result (λ simulation. simulation ≡ record { cluster = new_cluster cluster.now.config (secret_of cluster.now) liars.now; lies = [] }) }
+        requires opening { All (λ app. A.machine app ≡ run A.meaning cluster.now.config.kind []) apps.items }
+        ensures new { IfOk result (λ simulation. simulation ≡ record
+            { cluster = new_cluster A.meaning cluster.now.config (secret_of cluster.now) liars.now; lies = [] }) }
         ensures too_many { IsErrOf result WorldFault.TooManyLiars ↔ (cluster.now.config.faults < different liars.now) }
         ensures no_such { IsErrOf result WorldFault.NoSuchReplica
             ↔ ((different liars.now ≤ cluster.now.config.faults) × Any (λ r. cluster.now.config.replicas ≤ r) liars.now) }
@@ -79,10 +80,10 @@ impl<A: Application> Simulation<A> {
     /// world. If nothing that was accepted was forged, the run is a run of one sequential ledger.
     pub fn world(&self) -> &World<A>
         ensures world { result.now ≡ self.now.cluster }
-        ensures since { HasRun self.now.cluster }
-        ensures one_ledger { IsUnforgedRun self.now.cluster → IsOneLedger self.now.cluster }
+        ensures since { HasRun A.meaning self.now.cluster }
+        ensures one_ledger { IsUnforgedRun self.now.cluster → IsOneLedger A.meaning self.now.cluster }
         // Each entry of a correct replica is lawful after those before it, and what it sends is signed.
-        ensures replay { AllReplay self.now.cluster }
+        ensures replay { AllReplay A.meaning self.now.cluster }
         // A correct replica is mute only if too few leaves were left.
         ensures account { AllAccountForLeaves self.now.cluster }
     {

@@ -57,9 +57,9 @@ impl<A: Application> Simulation<A> {
 
     /// Takes a step, and returns its reply. After an error nothing has changed.
     fn take(&mut self, step: &WorldStep) -> Result<WorldReply, AllocError>
-        ensures taken { IfOk result (λ answer. IsAnswered self.old.cluster step.now answer self.new.cluster) }
+        ensures taken { IfOk result (λ answer. IsAnswered A.meaning self.old.cluster step.now answer self.new.cluster) }
         ensures lies { self.new.lies ≡ self.old.lies }
-        ensures goes_on { IsReachedByRun self.old.cluster self.new.cluster }
+        ensures goes_on { IsReachedByRun A.meaning self.old.cluster self.new.cluster }
     {
         match self.world.run(slice::from_ref(step))?.first() {
             Some(answer) => Ok(*answer),
@@ -101,9 +101,10 @@ impl<A: Application> Simulation<A> {
     /// Takes a pass within a round, and appends its lines: none if the frame is accepted.
     #[tactic(auto, using(crate::proofs::StepLemmas::stays))]
     pub(crate) fn pass(&mut self, step: &WorldStep, out: &mut Text) -> Result<(), AllocError>
-        ensures done { OnOk result ((given : WorldReply) × PrintsStep pass_text self.old.cluster step.now given self.new.cluster out.old out.new) }
+        ensures done { OnOk result ((given : WorldReply) × PrintsStep A.meaning pass_text self.old.cluster step.now given self.new.cluster
+            out.old out.new) }
         ensures lies { self.new.lies ≡ self.old.lies }
-        ensures goes_on { IsReachedByRun self.old.cluster self.new.cluster }
+        ensures goes_on { IsReachedByRun A.meaning self.old.cluster self.new.cluster }
     {
         let undecided = self.undecided(target(step))?;
         let answer = self.take(step)?;
@@ -120,9 +121,10 @@ impl<A: Application> Simulation<A> {
         step: &WorldStep,
         out: &mut Text,
     ) -> Result<WorldReply, AllocError>
-        ensures done { IfOk result (λ answer. PrintsStep step_text self.old.cluster step.now answer self.new.cluster out.old out.new) }
+        ensures done { IfOk result (λ answer. PrintsStep A.meaning step_text self.old.cluster step.now answer self.new.cluster out.old
+            out.new) }
         ensures lies { self.new.lies ≡ self.old.lies }
-        ensures goes_on { IsReachedByRun self.old.cluster self.new.cluster }
+        ensures goes_on { IsReachedByRun A.meaning self.old.cluster self.new.cluster }
     {
         let undecided = self.undecided(target(step))?;
         let answer = self.take(step)?;

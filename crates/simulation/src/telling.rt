@@ -33,7 +33,7 @@ impl<A: Application> Simulation<A> {
         requires { IsStatement statement }
         ensures done { IfOk result (λ signing. IsSigning self.old.cluster liar statement signing self.new.cluster) }
         ensures lies { self.new.lies ≡ self.old.lies }
-        ensures goes_on { IsReachedByRun self.old.cluster self.new.cluster }
+        ensures goes_on { IsReachedByRun A.meaning self.old.cluster self.new.cluster }
     {
         let unsigned = UnsignedFrame::new(self.allocator(), statement)?;
         let answer = self.world.sign_as(liar, unsigned.statement_bytes());
@@ -48,9 +48,10 @@ impl<A: Application> Simulation<A> {
         out: &mut Text,
     ) -> Result<(), AllocError>
         ensures done { OnOk result ((text : List ℕ)
-            × (StepsEach step_text self.old.cluster (injections_to receivers.now (frame_bytes frame.now)) text self.new.cluster × (out.new ≡ out.old ++ text))) }
+            × (StepsEach A.meaning step_text self.old.cluster (injections_to receivers.now (frame_bytes frame.now)) text self.new.cluster
+            × (out.new ≡ out.old ++ text))) }
         ensures lies { self.new.lies ≡ self.old.lies }
-        ensures goes_on { IsReachedByRun self.old.cluster self.new.cluster }
+        ensures goes_on { IsReachedByRun A.meaning self.old.cluster self.new.cluster }
     {
         for receiver in receivers {
             let step = WorldStep::Inject {
@@ -75,9 +76,11 @@ impl<A: Application> Simulation<A> {
     /// Injects a frame at the replicas that a lie goes to.
     fn inject(&mut self, to: Towards, frame: &Frame, out: &mut Text) -> Result<(), AllocError>
         ensures done { OnOk result ((text : List ℕ)
-            × (StepsEach step_text self.old.cluster (injections_to (lie_receivers self.old.cluster to) (frame_bytes frame.now)) text self.new.cluster × (out.new ≡ out.old ++ text))) }
+            × (StepsEach A.meaning step_text self.old.cluster
+            (injections_to (lie_receivers self.old.cluster to) (frame_bytes frame.now)) text self.new.cluster
+            × (out.new ≡ out.old ++ text))) }
         ensures lies { self.new.lies ≡ self.old.lies }
-        ensures goes_on { IsReachedByRun self.old.cluster self.new.cluster }
+        ensures goes_on { IsReachedByRun A.meaning self.old.cluster self.new.cluster }
     {
         let receivers = self.receivers(to)?;
         self.inject_each(&receivers, frame, out)
@@ -91,9 +94,10 @@ impl<A: Application> Simulation<A> {
         out: &mut Text,
     ) -> Result<(), AllocError>
         ensures done { OnOk result ((text : List ℕ)
-            × (StepsEach step_text self.old.cluster (injections_to (lie_receivers self.old.cluster to) (frame_bytes frame)) text self.new.cluster
+            × (StepsEach A.meaning step_text self.old.cluster
+            (injections_to (lie_receivers self.old.cluster to) (frame_bytes frame)) text self.new.cluster
             × (out.new ≡ out.old ++ text) × (self.new.lies ≡ self.old.lies ++ frame_bytes frame ∷ []))) }
-        ensures goes_on { IsReachedByRun self.old.cluster self.new.cluster }
+        ensures goes_on { IsReachedByRun A.meaning self.old.cluster self.new.cluster }
     {
         self.inject(to, &frame, out)?;
         self.lies.push(frame.into_bytes())?;
@@ -103,8 +107,9 @@ impl<A: Application> Simulation<A> {
     /// Lets a liar sign the statement of a lie, and injects its frame.
     fn tell(&mut self, lie: &Lie, statement: Statement, out: &mut Text) -> Result<(), AllocError>
         requires { IsStatement statement }
-        ensures done { OnOk result ((text : List ℕ) × (Lies lie.now statement self.old text self.new × (out.new ≡ out.old ++ text))) }
-        ensures goes_on { IsReachedByRun self.old.cluster self.new.cluster }
+        ensures done { OnOk result ((text : List ℕ) × (Lies A.meaning lie.now statement self.old text self.new
+            × (out.new ≡ out.old ++ text))) }
+        ensures goes_on { IsReachedByRun A.meaning self.old.cluster self.new.cluster }
     {
         match self.sign(lie.liar, statement)? {
             Signing::Signed(frame) => self.inject_and_keep(lie.to, frame, out),
@@ -116,8 +121,9 @@ impl<A: Application> Simulation<A> {
     /// Lets a liar sign a report.
     #[tactic(auto, using(crate::proofs::StepLemmas::stays))]
     pub(crate) fn tell_report(&mut self, lie: &Lie, out: &mut Text) -> Result<(), AllocError>
-        ensures done { OnOk result ((text : List ℕ) × (Lies lie.now (statement.Report (lying_report lie.now)) self.old text self.new × (out.new ≡ out.old ++ text))) }
-        ensures goes_on { IsReachedByRun self.old.cluster self.new.cluster }
+        ensures done { OnOk result ((text : List ℕ) × (Lies A.meaning lie.now
+            (statement.Report (lying_report lie.now)) self.old text self.new × (out.new ≡ out.old ++ text))) }
+        ensures goes_on { IsReachedByRun A.meaning self.old.cluster self.new.cluster }
     {
         let report = report_of(self.allocator(), lie)?;
         self.tell(lie, Statement::Report(report), out)
@@ -126,8 +132,9 @@ impl<A: Application> Simulation<A> {
     /// Lets a liar sign an acknowledgement.
     #[tactic(auto, using(crate::proofs::StepLemmas::stays))]
     pub(crate) fn tell_ack(&mut self, lie: &Lie, out: &mut Text) -> Result<(), AllocError>
-        ensures done { OnOk result ((text : List ℕ) × (Lies lie.now (statement.Ack (lying_ack lie.now)) self.old text self.new × (out.new ≡ out.old ++ text))) }
-        ensures goes_on { IsReachedByRun self.old.cluster self.new.cluster }
+        ensures done { OnOk result ((text : List ℕ) × (Lies A.meaning lie.now (statement.Ack (lying_ack lie.now)) self.old text self.new
+            × (out.new ≡ out.old ++ text))) }
+        ensures goes_on { IsReachedByRun A.meaning self.old.cluster self.new.cluster }
     {
         let ack = ack_of(lie)?;
         self.tell(lie, Statement::Ack(ack), out)
@@ -144,8 +151,9 @@ impl<A: Application> Simulation<A> {
         out: &mut Text,
     ) -> Result<(), AllocError>
         ensures done { OnOk result ((text : List ℕ)
-            × (LiesLock lie.now (proof_for self.old lie.now source) cannot.now self.old text self.new × (out.new ≡ out.old ++ text))) }
-        ensures goes_on { IsReachedByRun self.old.cluster self.new.cluster }
+            × (LiesLock A.meaning lie.now (proof_for self.old lie.now source) cannot.now self.old text self.new
+            × (out.new ≡ out.old ++ text))) }
+        ensures goes_on { IsReachedByRun A.meaning self.old.cluster self.new.cluster }
     {
         let Some(proof) = self.proof(lie, source)? else {
             return out.add(cannot);

@@ -9,4 +9,4 @@ abbrev pub invariant-loop-tx : goal.invariant-loop-tx
 invariant-loop-tx g l =
     let old : Machine = g.A.Application.machine l.initial.app in
     let new : Machine = g.A.Application.machine l.app in
-    KeepsCommitted old new × DeliversAll old (take l.tx-index l.transactions) l.codes.items new
+    KeepsCommitted old new × DeliversAll (g.A.Application.meaning) old (take l.tx-index l.transactions) l.codes.items new

@@ -4,9 +4,10 @@ use Rattle.abci_executor.proofs.block.run_block.Goals as goal
 
 pub returns-clause-ok : goal.returns-clause-ok
 returns-clause-ok g c =
-    adds_block (g.A.Application.machine c.args.app.now) (g.A.Application.machine c.commit-hash.new.self) c.args.batch.now
+    adds_block (g.A.Application.meaning) (g.A.Application.machine c.args.app.now)
+    (g.A.Application.machine c.commit-hash.new.self) c.args.batch.now
     (record { height = c.new-height.result; codes = c.in_ok-codes.codes; hash = c.commit-hash.result })
-    (runs_block (g.A.Application.machine c.args.app.now) (g.A.Application.machine c.begin_block.new.self)
+    (runs_block (g.A.Application.meaning) (g.A.Application.machine c.args.app.now) (g.A.Application.machine c.begin_block.new.self)
     (g.A.Application.machine c.deliver_all.new.app) (g.A.Application.machine c.end_block.new.self)
     (g.A.Application.machine c.commit-hash.new.self)
     c.args.batch.now c.new-height.result c.in_ok-codes.codes c.commit-hash.result

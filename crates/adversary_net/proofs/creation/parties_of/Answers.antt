@@ -15,7 +15,8 @@ loop-replica-init g c =
     record {
       parties = search rules;
       signers = c.into_iter-signers.ensures.rest ∙ c.requires.signers ∙ all_left c.args.cluster.now;
-      supply = subst (λ k. IsSupply g.A.Application.machine c.args.cluster.now.config (length (correct_from c.args.liars.now 0 k))
+      supply = subst (λ k. IsSupply (g.A.Application.meaning) g.A.Application.machine c.args.cluster.now.config
+          (length (correct_from c.args.liars.now 0 k))
           (into_iter_items c.args.supply.apps) (into_iter_items c.args.supply.randoms)) whole c.requires.supply;
     }
 
@@ -47,7 +48,7 @@ loop-replica-preserved g c =
     let was = c.loop-replica.invariant in
     let taken = one_taken c.args.cluster.now r (into_iter_items c.loop-replica.signers) c.in-Some.signer (into_iter_items c.next.new.self)
     c.loop-replica-test.true was.signers c.in-Some.ensures.cases.0 in
-    let f = new_party c.args.cluster.now.config c.args.ring.now (secret_of c.args.cluster.now) c.args.liars.now in
+    let f = new_party (g.A.Application.meaning) c.args.cluster.now.config c.args.ring.now (secret_of c.args.cluster.now) c.args.liars.now in
     let is : c.in_ok-party.party ≡ f r = c.in_ok-party.ensures.party ∙ ap f c.new-id.ensures in
     let grown : c.push.new.self.items ≡ c.loop-replica.parties.items ++ c.in_ok-party.party ∷ [] = search rules in
     let count = correct_left c.args.liars.now r n c.loop-replica-test.true in
@@ -59,7 +60,8 @@ loop-replica-preserved g c =
       parties = grown ∙ ap (λ l. l ++ c.in_ok-party.party ∷ []) was.parties ∙ ap (λ p. map f (range_with_len 0 r) ++ p ∷ []) is
           ∙ sym (map-range_with_len_more f 0 r r (omega arith));
       signers = taken.1;
-      supply = subst (λ k. IsSupply g.A.Application.machine c.args.cluster.now.config k (into_iter_items c.party_of.new.supply.apps)
+      supply = subst (λ k. IsSupply (g.A.Application.meaning) g.A.Application.machine c.args.cluster.now.config k
+          (into_iter_items c.party_of.new.supply.apps)
           (into_iter_items c.party_of.new.supply.randoms)) fewer c.in_ok-party.ensures.supply_left;
     }
 
@@ -67,5 +69,6 @@ pub returns : goal.returns
 returns g c =
     let n : c.loop-replica.replica ≡ c.args.cluster.now.config.replicas = omega arith in
     c.loop-replica.invariant.parties
-    ∙ ap (λ k. map (new_party c.args.cluster.now.config c.args.ring.now (secret_of c.args.cluster.now) c.args.liars.now)
+    ∙ ap (λ k. map (new_party (g.A.Application.meaning) c.args.cluster.now.config c.args.ring.now
+    (secret_of c.args.cluster.now) c.args.liars.now)
     (range_with_len 0 k)) n

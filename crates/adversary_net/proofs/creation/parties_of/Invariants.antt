@@ -9,9 +9,10 @@ use Rattle.adversary_net.proofs.creation.parties_of.Given as goal
 -- the parties so far, and the signers and what else there is for the others
 abbrev pub invariant-loop-replica : goal.invariant-loop-replica
 invariant-loop-replica g l = record {
-  parties : l.parties.items ≡ map (new_party l.cluster.config l.ring (secret_of l.cluster) l.liars) (range_with_len 0 l.replica);
+  parties : l.parties.items ≡ map (new_party (g.A.Application.meaning) l.cluster.config l.ring (secret_of l.cluster) l.liars)
+      (range_with_len 0 l.replica);
   signers : into_iter_items l.signers ≡ signers_from l.cluster l.replica;
-  supply : IsSupply g.A.Application.machine l.cluster.config
+  supply : IsSupply (g.A.Application.meaning) g.A.Application.machine l.cluster.config
       (length (correct_from l.liars l.replica (l.cluster.config.replicas - l.replica)))
       (into_iter_items l.supply.apps) (into_iter_items l.supply.randoms);
 }

@@ -28,5 +28,5 @@ returns-clause-party g c =
           k.secret;
       used = k.used;
       entries = [];
-      machine = run c.args.cluster.now.config.kind [];
+      machine = run (g.A.Application.meaning) c.args.cluster.now.config.kind [];
     }) c.requires.signer))

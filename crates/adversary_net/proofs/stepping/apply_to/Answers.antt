@@ -7,8 +7,8 @@ use Rattle.adversary_net.proofs.stepping.apply_to.Goals as goal
 pub returns-clause-applied : goal.returns-clause-applied
 returns-clause-applied g c =
     rw c.in-Correct.is
-    (IfOk-weaker c.apply.result (λ index. AppliesAt c.in-Correct.replica c.args.event index c.apply.new.self)
-    (λ index. AppliesTo c.in-Correct.replica c.args.event index (party.Correct c.apply.new.self))
+    (IfOk-weaker c.apply.result (λ index. AppliesAt (g.A.Application.meaning) c.in-Correct.replica c.args.event index c.apply.new.self)
+    (λ index. AppliesTo (g.A.Application.meaning) c.in-Correct.replica c.args.event index (party.Correct c.apply.new.self))
     (λ index applied. (c.apply.new.self, (refl, applied))) c.apply.ensures.applied)
 
 pub returns-clause-err : goal.returns-clause-err

@@ -1,6 +1,6 @@
 -- Each account adds its balance and its nonce.
 use Rattle.std.proofs.Common.{[], take_all}
-use Rattle.ledger_model.specs.Applications.{state_bytes}
+use Rattle.ledger_model.specs.Kinds.{purse_bytes}
 use Rattle.app_kinds.proofs.Transfers.{bytes-more}
 use Rattle.app_kinds.proofs.accounts.hash_of.Goals as goal
 
@@ -14,6 +14,6 @@ loop-account-preserved c =
     (c.update-in-loop-account-2.ensures _ (c.update-in-loop-account.ensures _ c.loop-account.invariant))
 
 pub returns : goal.returns
-unfolding state_bytes
+unfolding purse_bytes
 returns c = c.finalize.ensures _
     (rw (take_all c.loop-account.account-index c.args.accounts.now c.loop-account-test.false) at c.loop-account.invariant)

@@ -1,7 +1,7 @@
 -- One byte more, and room for it.
 use Rattle.std.proofs.Common.{arith, ◌≡◌, ◌<◌, ◌^◌, take, refl}
 use Rattle.std.proofs.lemmas.List.{take_more}
-use Rattle.ledger_model.specs.Applications.{number_in}
+use Rattle.ledger_model.specs.Kinds.{number_in}
 use Rattle.app_kinds.proofs.Counting.{number_in-push, number_in-take}
 use Rattle.app_kinds.proofs.count.number_of.Goals as goal
 

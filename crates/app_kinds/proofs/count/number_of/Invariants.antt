@@ -1,5 +1,5 @@
 use Rattle.std.proofs.Common.{◌≡◌, take}
-use Rattle.ledger_model.specs.Applications.{number_in}
+use Rattle.ledger_model.specs.Kinds.{number_in}
 use Rattle.app_kinds.proofs.count.number_of.Given as goal
 
 abbrev pub invariant-loop-byte : goal.invariant-loop-byte

@@ -7,5 +7,5 @@ use Rattle.app_kinds.proofs.opening.new_apps.Given as goal
 abbrev pub invariant-loop : goal.invariant-loop
 invariant-loop g l = record {
   count : vec_len l.apps ≡ l.counter;
-  opening : All (λ app. g.A.Application.machine app ≡ run l.kind []) l.apps.items;
+  opening : All (λ app. g.A.Application.machine app ≡ run (g.A.Application.meaning) l.kind []) l.apps.items;
 }

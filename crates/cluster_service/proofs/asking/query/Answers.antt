@@ -19,7 +19,8 @@ returns-clause-full g c = search rules
 
 pub returns-clause-outcome : goal.returns-clause-outcome
 returns-clause-outcome g c =
-    query_outcome c.args.state.now c.query.new.state c.args.key.now c.query.result (returns-clause-applied g c) (returns-clause-answer g c)
+    query_outcome (g.A.Application.meaning) c.args.state.now c.query.new.state c.args.key.now c.query.result (returns-clause-applied g c)
+    (returns-clause-answer g c)
     (returns-clause-long g c) (returns-clause-long_same g c) (λ full. (returns-clause-full g c full).0) c.query.ensures.sound
     c.query.ensures.leaves
 

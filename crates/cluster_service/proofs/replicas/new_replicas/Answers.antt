@@ -29,7 +29,7 @@ pub loop-id-preserved : goal.loop-id-preserved
 loop-id-preserved g c =
     let cluster = c.args.cluster.now in
     let id = c.loop-id.id in
-    let made : ℕ → StateView = λ r. begun cluster (submitted cluster c.args.tx.now r) r in
+    let made : ℕ → StateView = λ r. begun (g.A.Application.meaning) cluster (submitted (g.A.Application.meaning) cluster c.args.tx.now r) r in
     let state : StateView = c.in_ok-new_state.field-0 in
     let grown : c.push.new.self.items ≡ c.loop-id.states.items ++ state ∷ [] = search rules in
     record {

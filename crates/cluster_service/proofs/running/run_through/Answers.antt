@@ -7,4 +7,5 @@ pub take_all-requires-clause-ring : goal.take_all-requires-clause-ring
 take_all-requires-clause-ring g c =
     let s = c.args.settings.now in
     c.in_ok-states.ensures.ring
-    ∙ sym (c.in_ok-cluster.ensures.ring ∙ ap first_ring c.in_ok-states.ensures.replicas ∙ first_ring_of s.cluster s.tx)
+    ∙ sym (c.in_ok-cluster.ensures.ring ∙ ap first_ring c.in_ok-states.ensures.replicas
+    ∙ first_ring_of (g.A.Application.meaning) s.cluster s.tx)

@@ -20,11 +20,13 @@ returns-in_err-save_histories-clause-reports g c =
     let after = g.W.Write.contents c.write_lines-written.new.writer in
     let empty = file_bytes c.args.file.now in
     let full = file_bytes c.save_histories.new.file in
-    let taken = taken_by s left.ring left.histories.items left.heights.items c.requires.ring c.requires.taken in
+    let taken = taken_by (g.A.Application.meaning) s left.ring left.histories.items left.heights.items c.requires.ring c.requires.taken in
     failed_with _ _ _ _ c.from_residual.ensures.1
-    (report_unsaved s left.histories.items left.heights.items c.requires.each taken c.write_lines-written.result (file_path c.args.file.now) _
+    (report_unsaved (g.A.Application.meaning) s left.histories.items left.heights.items c.requires.each taken c.write_lines-written.result
+    (file_path c.args.file.now) _
     before after empty full
-    (subst (λ r. WritesFinding s.cluster.config r left.histories.items left.heights.items c.write_lines-written.result before after)
+    (subst (λ r. WritesFinding (g.A.Application.meaning) s.cluster.config r left.histories.items left.heights.items
+    c.write_lines-written.result before after)
     c.requires.ring c.write_lines-written.ensures.written)
     c.in_err-save_histories.ensures.fault
     (subst (λ m. AppendsSome empty full (flat_map history_bytes m)) c.deref.ensures.value c.in_err-save_histories.ensures.written))
@@ -37,9 +39,11 @@ returns-clause-reports g c =
     let after = g.W.Write.contents c.write_lines-written.new.writer in
     let empty = file_bytes c.args.file.now in
     let full = file_bytes c.save_histories.new.file in
-    let taken = taken_by s left.ring left.histories.items left.heights.items c.requires.ring c.requires.taken in
-    report_saved s left.histories.items left.heights.items c.requires.each taken c.write_lines-written.result before after empty full
-    (subst (λ r. WritesFinding s.cluster.config r left.histories.items left.heights.items c.write_lines-written.result before after)
+    let taken = taken_by (g.A.Application.meaning) s left.ring left.histories.items left.heights.items c.requires.ring c.requires.taken in
+    report_saved (g.A.Application.meaning) s left.histories.items left.heights.items c.requires.each taken c.write_lines-written.result
+    before after empty full
+    (subst (λ r. WritesFinding (g.A.Application.meaning) s.cluster.config r left.histories.items left.heights.items
+    c.write_lines-written.result before after)
     c.requires.ring c.write_lines-written.ensures.written)
     c.write_lines-written.ensures.fault
     (subst (λ m. Appends empty full (flat_map history_bytes m)) c.deref.ensures.value c.in_ok-save_histories.ensures.written)

@@ -9,7 +9,8 @@ use Rattle.cluster_service.proofs.subcommands.serve.Goals as goal
 
 pub returns-in_err-stop-clause-reports : goal.returns-in_err-stop-clause-reports
 returns-in_err-stop-clause-reports g c = failed_with _ _ _ _ c.from_residual.ensures.1
-    (nothing_ran c.args.settings.now.cluster _ (g.W.Write.contents c.args.writer.now) (file_bytes c.args.file.now) c.in_err-stop.ensures)
+    (nothing_ran (g.A.Application.meaning) c.args.settings.now.cluster _ (g.W.Write.contents c.args.writer.now)
+    (file_bytes c.args.file.now) c.in_err-stop.ensures)
 
 pub returns-in_err-stop-clause-fault : goal.returns-in_err-stop-clause-fault
 returns-in_err-stop-clause-fault g c =
@@ -20,7 +21,8 @@ returns-in_err-stop-clause-fault g c =
 
 pub returns-in_err-left-clause-reports : goal.returns-in_err-left-clause-reports
 returns-in_err-left-clause-reports g c = failed_with _ _ _ _ c.from_residual-in_err-left.ensures.1
-    (nothing_ran c.args.settings.now.cluster _ (g.W.Write.contents c.args.writer.now) (file_bytes c.args.file.now) c.in_err-left.ensures.fault)
+    (nothing_ran (g.A.Application.meaning) c.args.settings.now.cluster _ (g.W.Write.contents c.args.writer.now)
+    (file_bytes c.args.file.now) c.in_err-left.ensures.fault)
 
 pub returns-in_err-left-clause-fault : goal.returns-in_err-left-clause-fault
 returns-in_err-left-clause-fault g c =
@@ -31,7 +33,7 @@ returns-in_err-left-clause-fault g c =
 
 pub returns-in_err-ended-clause-reports : goal.returns-in_err-ended-clause-reports
 returns-in_err-ended-clause-reports g c = failed_with _ _ _ _ c.from_residual-in_err-ended.ensures.1
-    (ran c.args.settings.now.cluster (Err c.in_err-ended.field-0.0) _ _ _ _ c.in_err-ended.ensures.reports)
+    (ran (g.A.Application.meaning) c.args.settings.now.cluster (Err c.in_err-ended.field-0.0) _ _ _ _ c.in_err-ended.ensures.reports)
 
 pub returns-in_err-ended-clause-fault : goal.returns-in_err-ended-clause-fault
 returns-in_err-ended-clause-fault g c =
@@ -41,4 +43,5 @@ returns-in_err-ended-clause-fault g c =
     c.from_residual-in_err-ended.ensures.1 (inl c.in_err-ended.ensures.fault)
 
 pub returns-clause-reports : goal.returns-clause-reports
-returns-clause-reports g c = ran c.args.settings.now.cluster (Ok c.in_ok-ended.ended) _ _ _ _ c.in_ok-ended.ensures.reports
+returns-clause-reports g c = ran (g.A.Application.meaning) c.args.settings.now.cluster
+    (Ok c.in_ok-ended.ended) _ _ _ _ c.in_ok-ended.ensures.reports

@@ -35,7 +35,8 @@ returns-in_err-write_finding-clause-written g c =
     (inr (
       finding,
       (
-        subst (λ m. IsFinding c.args.config.now c.args.left.now.ring m finding) c.deref-2.ensures.value c.in_ok-finding.ensures.finds,
+        subst (λ m. IsFinding (g.A.Application.meaning) c.args.config.now c.args.left.now.ring m finding) c.deref-2.ensures.value
+            c.in_ok-finding.ensures.finds,
         then_some before then after (commit_lines 0 c.args.left.now.heights.items) (finding_text finding)
             (subst (λ l. Appends before then (commit_lines 0 l)) c.deref.ensures.value c.in_ok-write_commits.ensures.written)
             c.in_err-write_finding.ensures.written,
@@ -50,7 +51,8 @@ returns-clause-written g c =
     let finding = c.in_ok-finding.finding in (
       finding,
       (
-        subst (λ m. IsFinding c.args.config.now c.args.left.now.ring m finding) c.deref-2.ensures.value c.in_ok-finding.ensures.finds,
+        subst (λ m. IsFinding (g.A.Application.meaning) c.args.config.now c.args.left.now.ring m finding) c.deref-2.ensures.value
+            c.in_ok-finding.ensures.finds,
         (
           c.finding_status.ensures,
           Appends-trans before then after (commit_lines 0 c.args.left.now.heights.items) (finding_text finding)

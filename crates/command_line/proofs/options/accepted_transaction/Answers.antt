@@ -10,14 +10,15 @@ use Rattle.command_line.proofs.options.accepted_transaction.Goals as goal
 pub returns-in_err-tx-clause-none : goal.returns-in_err-tx-clause-none
 returns-in_err-tx-clause-none g c =
     passed_up _ c.in_err-tx.field-0.0
-    (λ e. (tx : List ℕ) → IsAccepted (rows_of (found_of c.args.matches.now)) c.args.name.now c.args.kind tx → WantsMemory e)
+    (λ e. (tx : List ℕ) → IsAccepted (g.A.Application.meaning) (rows_of (found_of c.args.matches.now)) c.args.name.now c.args.kind tx
+    → WantsMemory e)
     c.from_residual-in_err-tx.ensures.1 (λ tx i. c.in_err-tx.ensures.none tx i.written)
 
 pub returns-then-code-ne0-clause-none : goal.returns-then-code-ne0-clause-none
 returns-then-code-ne0-clause-none g c = λ tx i.
     let same : tx ≡ c.in_ok-tx.tx =
     one_transaction (rows_of (found_of c.args.matches.now)) c.args.name.now _ _ i.written c.in_ok-tx.ensures.some in
-    c.if-code-ne0.true (c.check_code-code.ensures ∙ ap (check_reply c.args.kind []) (sym same) ∙ i.checked)
+    c.if-code-ne0.true (c.check_code-code.ensures ∙ ap (check_reply (g.A.Application.meaning) c.args.kind []) (sym same) ∙ i.checked)
 
 pub returns-then-code-ne0-clause-right : goal.returns-then-code-ne0-clause-right
 returns-then-code-ne0-clause-right g c = λ table takes chosen. (
@@ -35,10 +36,12 @@ returns-then-code-ne0-clause-right g c = λ table takes chosen. (
 
 pub returns-in_err-word-clause-right : goal.returns-in_err-word-clause-right
 returns-in_err-word-clause-right g c =
-    λ table takes chosen. passed_up _ c.in_err-word.field-0.0 (IsRightOf table (rows_of (found_of c.args.matches.now)))
-    c.from_residual.ensures.1 (c.in_err-word.ensures.right table takes.0)
+    λ table takes chosen. passed_up _ c.in_err-word.field-0.0
+    (IsRightOf (g.A.Application.meaning) table (rows_of (found_of c.args.matches.now)))
+    c.from_residual.ensures.1 (c.in_err-word.ensures.right (g.A.Application.meaning) table takes.0)
 
 pub returns-in_err-tx-clause-right : goal.returns-in_err-tx-clause-right
 returns-in_err-tx-clause-right g c =
-    λ table takes chosen. passed_up _ c.in_err-tx.field-0.0 (IsRightOf table (rows_of (found_of c.args.matches.now)))
-    c.from_residual-in_err-tx.ensures.1 (c.in_err-tx.ensures.right table takes)
+    λ table takes chosen. passed_up _ c.in_err-tx.field-0.0 (IsRightOf (g.A.Application.meaning) table
+    (rows_of (found_of c.args.matches.now)))
+    c.from_residual-in_err-tx.ensures.1 (c.in_err-tx.ensures.right (g.A.Application.meaning) table takes)

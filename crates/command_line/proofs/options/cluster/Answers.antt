@@ -33,33 +33,33 @@ returns-in_err-seed-clause-none c =
 
 pub returns-in_err-replicas-clause-right : goal.returns-in_err-replicas-clause-right
 returns-in_err-replicas-clause-right c =
-    λ table has. passed_up _ c.in_err-replicas.field-0.0 (IsRightOf table (rows_of (found_of c.args.matches.now)))
-    c.from_residual.ensures.1 (c.in_err-replicas.ensures.right table (has.n, inl has.n_limits))
+    λ meaning table has. passed_up _ c.in_err-replicas.field-0.0 (IsRightOf meaning table (rows_of (found_of c.args.matches.now)))
+    c.from_residual.ensures.1 (c.in_err-replicas.ensures.right meaning table (has.n, inl has.n_limits))
 
 pub returns-in_err-faults-clause-right : goal.returns-in_err-faults-clause-right
 returns-in_err-faults-clause-right c =
-    λ table has. passed_up _ c.in_err-faults.field-0.0 (IsRightOf table (rows_of (found_of c.args.matches.now)))
-    c.from_residual-in_err-faults.ensures.1 (c.in_err-faults.ensures.right table (has.t, inl has.t_limits))
+    λ meaning table has. passed_up _ c.in_err-faults.field-0.0 (IsRightOf meaning table (rows_of (found_of c.args.matches.now)))
+    c.from_residual-in_err-faults.ensures.1 (c.in_err-faults.ensures.right meaning table (has.t, inl has.t_limits))
 
 pub returns-in_err-kind-clause-right : goal.returns-in_err-kind-clause-right
 returns-in_err-kind-clause-right c =
-    λ table has. passed_up _ c.in_err-kind.field-0.0 (IsRightOf table (rows_of (found_of c.args.matches.now)))
-    c.from_residual-in_err-kind.ensures.1 (c.in_err-kind.ensures.right table (has.kind, inl has.kind_limits))
+    λ meaning table has. passed_up _ c.in_err-kind.field-0.0 (IsRightOf meaning table (rows_of (found_of c.args.matches.now)))
+    c.from_residual-in_err-kind.ensures.1 (c.in_err-kind.ensures.right meaning table (has.kind, inl has.kind_limits))
 
 pub returns-in_err-width-clause-right : goal.returns-in_err-width-clause-right
 returns-in_err-width-clause-right c =
-    λ table has. passed_up _ c.in_err-width.field-0.0 (IsRightOf table (rows_of (found_of c.args.matches.now)))
-    c.from_residual-in_err-width.ensures.1 (c.in_err-width.ensures.right table has.w)
+    λ meaning table has. passed_up _ c.in_err-width.field-0.0 (IsRightOf meaning table (rows_of (found_of c.args.matches.now)))
+    c.from_residual-in_err-width.ensures.1 (c.in_err-width.ensures.right meaning table has.w)
 
 pub returns-in_err-height-clause-right : goal.returns-in_err-height-clause-right
 returns-in_err-height-clause-right c =
-    λ table has. passed_up _ c.in_err-height.field-0.0 (IsRightOf table (rows_of (found_of c.args.matches.now)))
-    c.from_residual-in_err-height.ensures.1 (c.in_err-height.ensures.right table has.tree)
+    λ meaning table has. passed_up _ c.in_err-height.field-0.0 (IsRightOf meaning table (rows_of (found_of c.args.matches.now)))
+    c.from_residual-in_err-height.ensures.1 (c.in_err-height.ensures.right meaning table has.tree)
 
 pub returns-in_err-seed-clause-right : goal.returns-in_err-seed-clause-right
 returns-in_err-seed-clause-right c =
-    λ table has. passed_up _ c.in_err-seed.field-0.0 (IsRightOf table (rows_of (found_of c.args.matches.now)))
-    c.from_residual-in_err-seed.ensures.1 (c.in_err-seed.ensures.right table has.seed)
+    λ meaning table has. passed_up _ c.in_err-seed.field-0.0 (IsRightOf meaning table (rows_of (found_of c.args.matches.now)))
+    c.from_residual-in_err-seed.ensures.1 (c.in_err-seed.ensures.right meaning table has.seed)
 
 pub returns-in_err-frames-clause-none : goal.returns-in_err-frames-clause-none
 returns-in_err-frames-clause-none c =
@@ -68,5 +68,5 @@ returns-in_err-frames-clause-none c =
 
 pub returns-in_err-frames-clause-right : goal.returns-in_err-frames-clause-right
 returns-in_err-frames-clause-right c =
-    λ table has. passed_up _ c.in_err-frames.field-0.0 (IsRightOf table (rows_of (found_of c.args.matches.now)))
-    c.from_residual-in_err-frames.ensures.1 (c.in_err-frames.ensures.right table (has.frames, inl has.frames_limits))
+    λ meaning table has. passed_up _ c.in_err-frames.field-0.0 (IsRightOf meaning table (rows_of (found_of c.args.matches.now)))
+    c.from_residual-in_err-frames.ensures.1 (c.in_err-frames.ensures.right meaning table (has.frames, inl has.frames_limits))

@@ -16,8 +16,9 @@ returns-in_err-number-clause-none c =
 
 pub returns-in_err-number-clause-right : goal.returns-in_err-number-clause-right
 returns-in_err-number-clause-right c =
-    λ table has. passed_up _ c.in_err-number.field-0.0 (IsRightOf table (rows_of (found_of c.args.matches.now))) c.from_residual.ensures.1
-    (c.in_err-number.ensures.right table has)
+    λ meaning table has. passed_up _ c.in_err-number.field-0.0
+    (IsRightOf meaning table (rows_of (found_of c.args.matches.now))) c.from_residual.ensures.1
+    (c.in_err-number.ensures.right meaning table has)
 
 pub unreachable-requires : goal.unreachable-requires
 unreachable-requires c = some_kind _ c.in_ok-number.ensures.some.least c.in_ok-number.ensures.some.most c.in-None.ensures

@@ -9,8 +9,9 @@ returns-in_default-clause-none c = search rules
 
 pub returns-in_err-text-clause-right : goal.returns-in_err-text-clause-right
 returns-in_err-text-clause-right c =
-    λ table has. passed_up _ c.in_err-text.field-0.0 (IsRightOf table (rows_of (found_of c.args.matches.now))) c.from_residual.ensures.1
-    (c.in_err-text.ensures.right table has.0)
+    λ meaning table has. passed_up _ c.in_err-text.field-0.0
+    (IsRightOf meaning table (rows_of (found_of c.args.matches.now))) c.from_residual.ensures.1
+    (c.in_err-text.ensures.right meaning table has.0)
 
 pub returns-in_default-clause-right : goal.returns-in_default-clause-right
-returns-in_default-clause-right c = λ table has. (has, (c.in_ok-text.ensures.some, returns-in_default-clause-none c))
+returns-in_default-clause-right c = λ meaning table has. (has, (c.in_ok-text.ensures.some, returns-in_default-clause-none c))

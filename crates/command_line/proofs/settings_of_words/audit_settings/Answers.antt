@@ -15,10 +15,11 @@ returns-in_err-receipt-clause-none c =
 
 pub returns-in_err-cluster-clause-right : goal.returns-in_err-cluster-clause-right
 returns-in_err-cluster-clause-right c =
-    passed_up _ c.in_err-cluster.field-0.0 (IsRightOf audit_options (rows_of (found_of c.args.matches.now))) c.from_residual.ensures.1
-    (c.in_err-cluster.ensures.right audit_options (has_cluster _ _ _))
+    λ meaning. passed_up _ c.in_err-cluster.field-0.0 (IsRightOf meaning audit_options (rows_of (found_of c.args.matches.now)))
+    c.from_residual.ensures.1
+    (c.in_err-cluster.ensures.right meaning audit_options (has_cluster _ _ _))
 
 pub returns-in_err-receipt-clause-right : goal.returns-in_err-receipt-clause-right
 returns-in_err-receipt-clause-right c =
-    passed_up _ c.in_err-receipt.field-0.0 (IsRightOf audit_options (rows_of (found_of c.args.matches.now)))
-    c.from_residual-in_err-receipt.ensures.1 (c.in_err-receipt.ensures.right audit_options refl)
+    λ meaning. passed_up _ c.in_err-receipt.field-0.0 (IsRightOf meaning audit_options (rows_of (found_of c.args.matches.now)))
+    c.from_residual-in_err-receipt.ensures.1 (c.in_err-receipt.ensures.right meaning audit_options refl)

@@ -9,8 +9,9 @@ use Rattle.command_line.proofs.settings_of_words.draw_settings.Goals as goal
 
 pub returns-in_err-cluster-clause-right : goal.returns-in_err-cluster-clause-right
 returns-in_err-cluster-clause-right c =
-    passed_up _ c.in_err-cluster.field-0.0 (IsRightOf draw_options (rows_of (found_of c.args.matches.now))) c.from_residual.ensures.1
-    (c.in_err-cluster.ensures.right draw_options (has_cluster _ _ _))
+    λ meaning. passed_up _ c.in_err-cluster.field-0.0 (IsRightOf meaning draw_options (rows_of (found_of c.args.matches.now)))
+    c.from_residual.ensures.1
+    (c.in_err-cluster.ensures.right meaning draw_options (has_cluster _ _ _))
 
 pub returns-in_err-height-clause-none : goal.returns-in_err-height-clause-none
 returns-in_err-height-clause-none c =
@@ -18,8 +19,8 @@ returns-in_err-height-clause-none c =
 
 pub returns-in_err-height-clause-right : goal.returns-in_err-height-clause-right
 returns-in_err-height-clause-right c =
-    passed_up _ c.in_err-height.field-0.0 (IsRightOf draw_options (rows_of (found_of c.args.matches.now)))
-    c.from_residual-in_err-height.ensures.1 (c.in_err-height.ensures.right draw_options (refl, inl refl))
+    λ meaning. passed_up _ c.in_err-height.field-0.0 (IsRightOf meaning draw_options (rows_of (found_of c.args.matches.now)))
+    c.from_residual-in_err-height.ensures.1 (c.in_err-height.ensures.right meaning draw_options (refl, inl refl))
 
 pub returns-in_err-first-clause-none : goal.returns-in_err-first-clause-none
 returns-in_err-first-clause-none c =
@@ -27,8 +28,8 @@ returns-in_err-first-clause-none c =
 
 pub returns-in_err-first-clause-right : goal.returns-in_err-first-clause-right
 returns-in_err-first-clause-right c =
-    passed_up _ c.in_err-first.field-0.0 (IsRightOf draw_options (rows_of (found_of c.args.matches.now)))
-    c.from_residual-in_err-first.ensures.1 (c.in_err-first.ensures.right draw_options (refl, inl refl))
+    λ meaning. passed_up _ c.in_err-first.field-0.0 (IsRightOf meaning draw_options (rows_of (found_of c.args.matches.now)))
+    c.from_residual-in_err-first.ensures.1 (c.in_err-first.ensures.right meaning draw_options (refl, inl refl))
 
 pub returns-in_err-last-clause-none : goal.returns-in_err-last-clause-none
 returns-in_err-last-clause-none c =
@@ -36,5 +37,5 @@ returns-in_err-last-clause-none c =
 
 pub returns-in_err-last-clause-right : goal.returns-in_err-last-clause-right
 returns-in_err-last-clause-right c =
-    passed_up _ c.in_err-last.field-0.0 (IsRightOf draw_options (rows_of (found_of c.args.matches.now)))
-    c.from_residual-in_err-last.ensures.1 (c.in_err-last.ensures.right draw_options (refl, inl refl))
+    λ meaning. passed_up _ c.in_err-last.field-0.0 (IsRightOf meaning draw_options (rows_of (found_of c.args.matches.now)))
+    c.from_residual-in_err-last.ensures.1 (c.in_err-last.ensures.right meaning draw_options (refl, inl refl))

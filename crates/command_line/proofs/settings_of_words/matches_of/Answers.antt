@@ -27,7 +27,7 @@ returns-in-Err-clause-refused c = λ taken.
 pub returns-in-Err-clause-right : goal.returns-in-Err-clause-right
 unfolding kinds_of
 returns-in-Err-clause-right c =
-    refused_right (map (λ w. w.now) c.args.words.now) c.in-Err.error c.fault_of.result
+    λ meaning. refused_right meaning (map (λ w. w.now) c.args.words.now) c.in-Err.error c.fault_of.result
     (subst (λ a. HasKind (fault_of a (map (λ w. w.now) c.args.words.now)) c.in-Err.error) c.in_ok-command.ensures
     (c.in-Err.ensures.kinds (ap is_simple_and_free c.in_ok-command.ensures ∙ abft_is_free)))
     c.fault_of.ensures.named

@@ -16,8 +16,9 @@ returns-in-sign-clause-set g c =
     let rows : List Row = rows_of (found_of c.in-Some.options.now) in
     let found = found_is c.args.matches.now (codes "sign") rows (search (rules, c.in-sign.is, c.in-Some.ensures.name))
     c.in-Some.ensures.rows in
-    set_alike (λ t s. s ≡ settings.Sign t) (SetsSign rows) _ _ c.sign_settings.result c.map.result found
-    (λ t s is set. subst (λ x. Sets (Some (codes "sign", rows)) x) (sym is) (refl, set)) c.sign_settings.ensures.some
+    set_alike (g.A.Application.meaning) (λ t s. s ≡ settings.Sign t) (SetsSign rows) _ _ c.sign_settings.result c.map.result found
+    (λ t s is set. subst (λ x. Sets (g.A.Application.meaning) (Some (codes "sign", rows)) x) (sym is) (refl, set))
+    c.sign_settings.ensures.some
     c.map.ensures.cases
 
 pub returns-in-sign-clause-refused : goal.returns-in-sign-clause-refused
@@ -25,7 +26,8 @@ returns-in-sign-clause-refused g c =
     let rows : List Row = rows_of (found_of c.in-Some.options.now) in
     let found = found_is c.args.matches.now (codes "sign") rows (search (rules, c.in-sign.is, c.in-Some.ensures.name))
     c.in-Some.ensures.rows in
-    refused_alike _ (SetsSign rows) _ _ c.sign_settings.result c.map.result found (λ e s. sets_sign rows s) c.sign_settings.ensures.none
+    refused_alike (g.A.Application.meaning) _ (SetsSign rows) _ _ c.sign_settings.result c.map.result found
+    (λ e s. sets_sign (g.A.Application.meaning) rows s) c.sign_settings.ensures.none
     c.map.ensures.cases
 
 pub returns-in-deliver-clause-set : goal.returns-in-deliver-clause-set
@@ -33,8 +35,10 @@ returns-in-deliver-clause-set g c =
     let rows : List Row = rows_of (found_of c.in-Some.options.now) in
     let found = found_is c.args.matches.now (codes "deliver") rows (search (rules, c.in-deliver.is, c.in-Some.ensures.name))
     c.in-Some.ensures.rows in
-    set_alike (λ t s. s ≡ settings.Deliver t) (SetsDeliver rows) _ _ c.deliver_settings.result c.map-in-deliver.result found
-    (λ t s is set. subst (λ x. Sets (Some (codes "deliver", rows)) x) (sym is) (refl, set)) c.deliver_settings.ensures.some
+    set_alike (g.A.Application.meaning) (λ t s. s ≡ settings.Deliver t)
+    (SetsDeliver (g.A.Application.meaning) rows) _ _ c.deliver_settings.result c.map-in-deliver.result found
+    (λ t s is set. subst (λ x. Sets (g.A.Application.meaning) (Some (codes "deliver", rows)) x) (sym is) (refl, set))
+    c.deliver_settings.ensures.some
     c.map-in-deliver.ensures.cases
 
 pub returns-in-deliver-clause-refused : goal.returns-in-deliver-clause-refused
@@ -42,7 +46,8 @@ returns-in-deliver-clause-refused g c =
     let rows : List Row = rows_of (found_of c.in-Some.options.now) in
     let found = found_is c.args.matches.now (codes "deliver") rows (search (rules, c.in-deliver.is, c.in-Some.ensures.name))
     c.in-Some.ensures.rows in
-    refused_alike _ (SetsDeliver rows) _ _ c.deliver_settings.result c.map-in-deliver.result found (λ e s. sets_deliver rows s)
+    refused_alike (g.A.Application.meaning) _ (SetsDeliver (g.A.Application.meaning) rows) _ _ c.deliver_settings.result
+    c.map-in-deliver.result found (λ e s. sets_deliver (g.A.Application.meaning) rows s)
     c.deliver_settings.ensures.none c.map-in-deliver.ensures.cases
 
 pub returns-in-simulate-clause-set : goal.returns-in-simulate-clause-set
@@ -50,8 +55,10 @@ returns-in-simulate-clause-set g c =
     let rows : List Row = rows_of (found_of c.in-Some.options.now) in
     let found = found_is c.args.matches.now (codes "simulate") rows (search (rules, c.in-simulate.is, c.in-Some.ensures.name))
     c.in-Some.ensures.rows in
-    set_alike (λ t s. s ≡ settings.Simulate t) (SetsSimulate rows) _ _ c.simulate_settings.result c.map-in-simulate.result found
-    (λ t s is set. subst (λ x. Sets (Some (codes "simulate", rows)) x) (sym is) (refl, set)) c.simulate_settings.ensures.some
+    set_alike (g.A.Application.meaning) (λ t s. s ≡ settings.Simulate t)
+    (SetsSimulate rows) _ _ c.simulate_settings.result c.map-in-simulate.result found
+    (λ t s is set. subst (λ x. Sets (g.A.Application.meaning) (Some (codes "simulate", rows)) x) (sym is) (refl, set))
+    c.simulate_settings.ensures.some
     c.map-in-simulate.ensures.cases
 
 pub returns-in-simulate-clause-refused : goal.returns-in-simulate-clause-refused
@@ -59,7 +66,8 @@ returns-in-simulate-clause-refused g c =
     let rows : List Row = rows_of (found_of c.in-Some.options.now) in
     let found = found_is c.args.matches.now (codes "simulate") rows (search (rules, c.in-simulate.is, c.in-Some.ensures.name))
     c.in-Some.ensures.rows in
-    refused_alike _ (SetsSimulate rows) _ _ c.simulate_settings.result c.map-in-simulate.result found (λ e s. sets_simulate rows s)
+    refused_alike (g.A.Application.meaning) _ (SetsSimulate rows) _ _ c.simulate_settings.result c.map-in-simulate.result found
+    (λ e s. sets_simulate (g.A.Application.meaning) rows s)
     (refused_anyway (SetsSimulate rows) WantsMemory _ c.simulate_settings.ensures.none) c.map-in-simulate.ensures.cases
 
 pub returns-in-cluster-clause-set : goal.returns-in-cluster-clause-set
@@ -67,8 +75,10 @@ returns-in-cluster-clause-set g c =
     let rows : List Row = rows_of (found_of c.in-Some.options.now) in
     let found = found_is c.args.matches.now (codes "cluster") rows (search (rules, c.in-cluster.is, c.in-Some.ensures.name))
     c.in-Some.ensures.rows in
-    set_alike (λ t s. s ≡ settings.Cluster t) (SetsRunning rows) _ _ c.cluster_settings.result c.map-in-cluster.result found
-    (λ t s is set. subst (λ x. Sets (Some (codes "cluster", rows)) x) (sym is) (refl, set)) c.cluster_settings.ensures.some
+    set_alike (g.A.Application.meaning) (λ t s. s ≡ settings.Cluster t)
+    (SetsRunning (g.A.Application.meaning) rows) _ _ c.cluster_settings.result c.map-in-cluster.result found
+    (λ t s is set. subst (λ x. Sets (g.A.Application.meaning) (Some (codes "cluster", rows)) x) (sym is) (refl, set))
+    c.cluster_settings.ensures.some
     c.map-in-cluster.ensures.cases
 
 pub returns-in-cluster-clause-refused : goal.returns-in-cluster-clause-refused
@@ -76,7 +86,8 @@ returns-in-cluster-clause-refused g c =
     let rows : List Row = rows_of (found_of c.in-Some.options.now) in
     let found = found_is c.args.matches.now (codes "cluster") rows (search (rules, c.in-cluster.is, c.in-Some.ensures.name))
     c.in-Some.ensures.rows in
-    refused_alike _ (SetsRunning rows) _ _ c.cluster_settings.result c.map-in-cluster.result found (λ e s. sets_cluster rows s)
+    refused_alike (g.A.Application.meaning) _ (SetsRunning (g.A.Application.meaning) rows) _ _ c.cluster_settings.result
+    c.map-in-cluster.result found (λ e s. sets_cluster (g.A.Application.meaning) rows s)
     c.cluster_settings.ensures.none c.map-in-cluster.ensures.cases
 
 pub returns-in-serve-clause-set : goal.returns-in-serve-clause-set
@@ -84,8 +95,10 @@ returns-in-serve-clause-set g c =
     let rows : List Row = rows_of (found_of c.in-Some.options.now) in
     let found = found_is c.args.matches.now (codes "serve") rows (search (rules, c.in-serve.is, c.in-Some.ensures.name))
     c.in-Some.ensures.rows in
-    set_alike (λ t s. s ≡ settings.Serve t) (SetsServe rows) _ _ c.serve_settings.result c.map-in-serve.result found
-    (λ t s is set. subst (λ x. Sets (Some (codes "serve", rows)) x) (sym is) (refl, set)) c.serve_settings.ensures.some
+    set_alike (g.A.Application.meaning) (λ t s. s ≡ settings.Serve t)
+    (SetsServe (g.A.Application.meaning) rows) _ _ c.serve_settings.result c.map-in-serve.result found
+    (λ t s is set. subst (λ x. Sets (g.A.Application.meaning) (Some (codes "serve", rows)) x) (sym is) (refl, set))
+    c.serve_settings.ensures.some
     c.map-in-serve.ensures.cases
 
 pub returns-in-serve-clause-refused : goal.returns-in-serve-clause-refused
@@ -93,7 +106,8 @@ returns-in-serve-clause-refused g c =
     let rows : List Row = rows_of (found_of c.in-Some.options.now) in
     let found = found_is c.args.matches.now (codes "serve") rows (search (rules, c.in-serve.is, c.in-Some.ensures.name))
     c.in-Some.ensures.rows in
-    refused_alike _ (SetsServe rows) _ _ c.serve_settings.result c.map-in-serve.result found (λ e s. sets_serve rows s)
+    refused_alike (g.A.Application.meaning) _ (SetsServe (g.A.Application.meaning) rows) _ _ c.serve_settings.result c.map-in-serve.result
+    found (λ e s. sets_serve (g.A.Application.meaning) rows s)
     c.serve_settings.ensures.none c.map-in-serve.ensures.cases
 
 pub returns-in-audit-clause-set : goal.returns-in-audit-clause-set
@@ -101,8 +115,10 @@ returns-in-audit-clause-set g c =
     let rows : List Row = rows_of (found_of c.in-Some.options.now) in
     let found = found_is c.args.matches.now (codes "audit") rows (search (rules, c.in-audit.is, c.in-Some.ensures.name))
     c.in-Some.ensures.rows in
-    set_alike (λ t s. s ≡ settings.Audit t) (SetsAudit rows) _ _ c.audit_settings.result c.map-in-audit.result found
-    (λ t s is set. subst (λ x. Sets (Some (codes "audit", rows)) x) (sym is) (refl, set)) c.audit_settings.ensures.some
+    set_alike (g.A.Application.meaning) (λ t s. s ≡ settings.Audit t)
+    (SetsAudit rows) _ _ c.audit_settings.result c.map-in-audit.result found
+    (λ t s is set. subst (λ x. Sets (g.A.Application.meaning) (Some (codes "audit", rows)) x) (sym is) (refl, set))
+    c.audit_settings.ensures.some
     c.map-in-audit.ensures.cases
 
 pub returns-in-draw-clause-set : goal.returns-in-draw-clause-set
@@ -110,8 +126,9 @@ returns-in-draw-clause-set g c =
     let rows : List Row = rows_of (found_of c.in-Some.options.now) in
     let found = found_is c.args.matches.now (codes "draw") rows (search (rules, c.in-draw.is, c.in-Some.ensures.name))
     c.in-Some.ensures.rows in
-    set_alike (λ t s. s ≡ settings.Draw t) (SetsDraw rows) _ _ c.draw_settings.result c.map-in-draw.result found
-    (λ t s is set. subst (λ x. Sets (Some (codes "draw", rows)) x) (sym is) (refl, set)) c.draw_settings.ensures.some
+    set_alike (g.A.Application.meaning) (λ t s. s ≡ settings.Draw t) (SetsDraw rows) _ _ c.draw_settings.result c.map-in-draw.result found
+    (λ t s is set. subst (λ x. Sets (g.A.Application.meaning) (Some (codes "draw", rows)) x) (sym is) (refl, set))
+    c.draw_settings.ensures.some
     c.map-in-draw.ensures.cases
 
 pub returns-in-audit-clause-refused : goal.returns-in-audit-clause-refused
@@ -119,7 +136,8 @@ returns-in-audit-clause-refused g c =
     let rows : List Row = rows_of (found_of c.in-Some.options.now) in
     let found = found_is c.args.matches.now (codes "audit") rows (search (rules, c.in-audit.is, c.in-Some.ensures.name))
     c.in-Some.ensures.rows in
-    refused_alike _ (SetsAudit rows) _ _ c.audit_settings.result c.map-in-audit.result found (λ e s. sets_audit rows s)
+    refused_alike (g.A.Application.meaning) _ (SetsAudit rows) _ _ c.audit_settings.result c.map-in-audit.result found
+    (λ e s. sets_audit (g.A.Application.meaning) rows s)
     c.audit_settings.ensures.none c.map-in-audit.ensures.cases
 
 pub returns-in-draw-clause-refused : goal.returns-in-draw-clause-refused
@@ -127,12 +145,13 @@ returns-in-draw-clause-refused g c =
     let rows : List Row = rows_of (found_of c.in-Some.options.now) in
     let found = found_is c.args.matches.now (codes "draw") rows (search (rules, c.in-draw.is, c.in-Some.ensures.name))
     c.in-Some.ensures.rows in
-    refused_alike _ (SetsDraw rows) _ _ c.draw_settings.result c.map-in-draw.result found (λ e s. sets_draw rows s)
+    refused_alike (g.A.Application.meaning) _ (SetsDraw rows) _ _ c.draw_settings.result c.map-in-draw.result found
+    (λ e s. sets_draw (g.A.Application.meaning) rows s)
     c.draw_settings.ensures.none c.map-in-draw.ensures.cases
 
 pub returns-in_default-name-clause-refused : goal.returns-in_default-name-clause-refused
 returns-in_default-name-clause-refused g c = λ s sets.
-    elim (names_one c.args.matches.now s sets) [
+    elim (names_one (g.A.Application.meaning) c.args.matches.now s sets) [
       | inl h ↦ c.in_default-name.not-sign (same_Some c.in-Some.name.now (codes "sign") (c.in-Some.ensures.name ∙ h))
       | inr (inl h) ↦ c.in_default-name.not-deliver (same_Some c.in-Some.name.now (codes "deliver") (c.in-Some.ensures.name ∙ h))
       | inr (inr (inl h)) ↦ c.in_default-name.not-simulate (same_Some c.in-Some.name.now (codes "simulate") (c.in-Some.ensures.name ∙ h))
@@ -151,14 +170,15 @@ returns-in-sign-clause-right g c =
     let rows : List Row = rows_of (found_of c.in-Some.options.now) in
     let found = found_is c.args.matches.now (codes "sign") rows (search (rules, c.in-sign.is, c.in-Some.ensures.name))
     c.in-Some.ensures.rows in
-    right_alike _ _ _ c.sign_settings.result c.map.result found c.sign_settings.ensures.right c.map.ensures.cases
+    right_alike (g.A.Application.meaning) _ _ _ c.sign_settings.result c.map.result found
+    (c.sign_settings.ensures.right (g.A.Application.meaning)) c.map.ensures.cases
 
 pub returns-in-deliver-clause-right : goal.returns-in-deliver-clause-right
 returns-in-deliver-clause-right g c =
     let rows : List Row = rows_of (found_of c.in-Some.options.now) in
     let found = found_is c.args.matches.now (codes "deliver") rows (search (rules, c.in-deliver.is, c.in-Some.ensures.name))
     c.in-Some.ensures.rows in
-    right_alike _ _ _ c.deliver_settings.result c.map-in-deliver.result found c.deliver_settings.ensures.right
+    right_alike (g.A.Application.meaning) _ _ _ c.deliver_settings.result c.map-in-deliver.result found c.deliver_settings.ensures.right
     c.map-in-deliver.ensures.cases
 
 pub returns-in-simulate-clause-right : goal.returns-in-simulate-clause-right
@@ -166,7 +186,8 @@ returns-in-simulate-clause-right g c =
     let rows : List Row = rows_of (found_of c.in-Some.options.now) in
     let found = found_is c.args.matches.now (codes "simulate") rows (search (rules, c.in-simulate.is, c.in-Some.ensures.name))
     c.in-Some.ensures.rows in
-    right_alike _ _ _ c.simulate_settings.result c.map-in-simulate.result found c.simulate_settings.ensures.right
+    right_alike (g.A.Application.meaning) _ _ _ c.simulate_settings.result c.map-in-simulate.result found
+    (c.simulate_settings.ensures.right (g.A.Application.meaning))
     c.map-in-simulate.ensures.cases
 
 pub returns-in-cluster-clause-right : goal.returns-in-cluster-clause-right
@@ -174,7 +195,7 @@ returns-in-cluster-clause-right g c =
     let rows : List Row = rows_of (found_of c.in-Some.options.now) in
     let found = found_is c.args.matches.now (codes "cluster") rows (search (rules, c.in-cluster.is, c.in-Some.ensures.name))
     c.in-Some.ensures.rows in
-    right_alike _ _ _ c.cluster_settings.result c.map-in-cluster.result found
+    right_alike (g.A.Application.meaning) _ _ _ c.cluster_settings.result c.map-in-cluster.result found
     (c.cluster_settings.ensures.right running_options (has_running _ _ _))
     c.map-in-cluster.ensures.cases
 
@@ -183,21 +204,24 @@ returns-in-serve-clause-right g c =
     let rows : List Row = rows_of (found_of c.in-Some.options.now) in
     let found = found_is c.args.matches.now (codes "serve") rows (search (rules, c.in-serve.is, c.in-Some.ensures.name))
     c.in-Some.ensures.rows in
-    right_alike _ _ _ c.serve_settings.result c.map-in-serve.result found c.serve_settings.ensures.right c.map-in-serve.ensures.cases
+    right_alike (g.A.Application.meaning) _ _ _ c.serve_settings.result c.map-in-serve.result found c.serve_settings.ensures.right
+    c.map-in-serve.ensures.cases
 
 pub returns-in-audit-clause-right : goal.returns-in-audit-clause-right
 returns-in-audit-clause-right g c =
     let rows : List Row = rows_of (found_of c.in-Some.options.now) in
     let found = found_is c.args.matches.now (codes "audit") rows (search (rules, c.in-audit.is, c.in-Some.ensures.name))
     c.in-Some.ensures.rows in
-    right_alike _ _ _ c.audit_settings.result c.map-in-audit.result found c.audit_settings.ensures.right c.map-in-audit.ensures.cases
+    right_alike (g.A.Application.meaning) _ _ _ c.audit_settings.result c.map-in-audit.result found
+    (c.audit_settings.ensures.right (g.A.Application.meaning)) c.map-in-audit.ensures.cases
 
 pub returns-in-draw-clause-right : goal.returns-in-draw-clause-right
 returns-in-draw-clause-right g c =
     let rows : List Row = rows_of (found_of c.in-Some.options.now) in
     let found = found_is c.args.matches.now (codes "draw") rows (search (rules, c.in-draw.is, c.in-Some.ensures.name))
     c.in-Some.ensures.rows in
-    right_alike _ _ _ c.draw_settings.result c.map-in-draw.result found c.draw_settings.ensures.right c.map-in-draw.ensures.cases
+    right_alike (g.A.Application.meaning) _ _ _ c.draw_settings.result c.map-in-draw.result found
+    (c.draw_settings.ensures.right (g.A.Application.meaning)) c.map-in-draw.ensures.cases
 
 pub returns-in_default-name-clause-right : goal.returns-in_default-name-clause-right
 returns-in_default-name-clause-right g c =

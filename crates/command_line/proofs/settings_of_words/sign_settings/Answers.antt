@@ -29,31 +29,32 @@ returns-in_err-value-clause-none c =
 
 pub returns-in_err-cluster-clause-right : goal.returns-in_err-cluster-clause-right
 returns-in_err-cluster-clause-right c =
-    passed_up _ c.in_err-cluster.field-0.0 (IsRightOf sign_options (rows_of (found_of c.args.matches.now))) c.from_residual.ensures.1
-    (c.in_err-cluster.ensures.right sign_options (has_cluster _ _ _))
+    λ meaning. passed_up _ c.in_err-cluster.field-0.0 (IsRightOf meaning sign_options (rows_of (found_of c.args.matches.now)))
+    c.from_residual.ensures.1
+    (c.in_err-cluster.ensures.right meaning sign_options (has_cluster _ _ _))
 
 pub returns-in_err-what-clause-right : goal.returns-in_err-what-clause-right
 returns-in_err-what-clause-right c =
-    passed_up _ c.in_err-what.field-0.0 (IsRightOf sign_options (rows_of (found_of c.args.matches.now)))
-    c.from_residual-in_err-what.ensures.1 (c.in_err-what.ensures.right sign_options refl)
+    λ meaning. passed_up _ c.in_err-what.field-0.0 (IsRightOf meaning sign_options (rows_of (found_of c.args.matches.now)))
+    c.from_residual-in_err-what.ensures.1 (c.in_err-what.ensures.right meaning sign_options refl)
 
 pub returns-in_err-replica-clause-right : goal.returns-in_err-replica-clause-right
 returns-in_err-replica-clause-right c =
-    passed_up _ c.in_err-replica.field-0.0 (IsRightOf sign_options (rows_of (found_of c.args.matches.now)))
+    λ meaning. passed_up _ c.in_err-replica.field-0.0 (IsRightOf meaning sign_options (rows_of (found_of c.args.matches.now)))
     c.from_residual-in_err-replica.ensures.1
-    (c.in_err-replica.ensures.right sign_options (takes_replica sign_options _ _ refl c.in_ok-cluster.ensures.some.n))
+    (c.in_err-replica.ensures.right meaning sign_options (takes_replica sign_options _ _ refl c.in_ok-cluster.ensures.some.n))
 
 pub returns-in_err-height-clause-right : goal.returns-in_err-height-clause-right
 returns-in_err-height-clause-right c =
-    passed_up _ c.in_err-height.field-0.0 (IsRightOf sign_options (rows_of (found_of c.args.matches.now)))
-    c.from_residual-in_err-height.ensures.1 (c.in_err-height.ensures.right sign_options (refl, inl refl))
+    λ meaning. passed_up _ c.in_err-height.field-0.0 (IsRightOf meaning sign_options (rows_of (found_of c.args.matches.now)))
+    c.from_residual-in_err-height.ensures.1 (c.in_err-height.ensures.right meaning sign_options (refl, inl refl))
 
 pub returns-in_err-phase-clause-right : goal.returns-in_err-phase-clause-right
 returns-in_err-phase-clause-right c =
-    passed_up _ c.in_err-phase.field-0.0 (IsRightOf sign_options (rows_of (found_of c.args.matches.now)))
-    c.from_residual-in_err-phase.ensures.1 (c.in_err-phase.ensures.right sign_options (refl, inl refl))
+    λ meaning. passed_up _ c.in_err-phase.field-0.0 (IsRightOf meaning sign_options (rows_of (found_of c.args.matches.now)))
+    c.from_residual-in_err-phase.ensures.1 (c.in_err-phase.ensures.right meaning sign_options (refl, inl refl))
 
 pub returns-in_err-value-clause-right : goal.returns-in_err-value-clause-right
 returns-in_err-value-clause-right c =
-    passed_up _ c.in_err-value.field-0.0 (IsRightOf sign_options (rows_of (found_of c.args.matches.now)))
-    c.from_residual-in_err-value.ensures.1 (c.in_err-value.ensures.right sign_options (refl, refl))
+    λ meaning. passed_up _ c.in_err-value.field-0.0 (IsRightOf meaning sign_options (rows_of (found_of c.args.matches.now)))
+    c.from_residual-in_err-value.ensures.1 (c.in_err-value.ensures.right meaning sign_options (refl, refl))

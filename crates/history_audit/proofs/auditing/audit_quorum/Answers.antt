@@ -14,19 +14,22 @@ follow_all-requires-clause-opening g c = recursion_from_All _ c.args.apps.items 
 pub returns-in_err-ledger : goal.returns-in_err-ledger
 returns-in_err-ledger g c =
     let ring_is = c.in_ok-verifier.ensures in
-    let is = subst (λ r. FollowsAll c.args.config.now r c.args.histories.now (Err c.in_err-ledger.field-0.0)) ring_is
+    let is = subst (λ r. FollowsAll (g.A.Application.meaning) c.args.config.now r c.args.histories.now (Err c.in_err-ledger.field-0.0))
+    ring_is
     c.in_err-ledger.ensures in
     let p = err_from_is_err_and c.from_residual-in_err-ledger.result c.from_residual-in_err-ledger.ensures.1 in
-    rw (p.1, p.2) (broken_found c.args.config.now c.args.ring.now c.args.histories.now c.in_err-ledger.field-0.0 c.requires.count is)
+    rw (p.1, p.2) (broken_found (g.A.Application.meaning) c.args.config.now c.args.ring.now c.args.histories.now c.in_err-ledger.field-0.0
+    c.requires.count is)
 
 pub returns-in_err-look_for_unsent : goal.returns-in_err-look_for_unsent
 returns-in_err-look_for_unsent g c =
     let config = c.args.config.now in
     let histories = c.args.histories.now in
     let ring_is = c.in_ok-verifier.ensures in
-    let replays = subst (λ r. AreReplays config r histories) ring_is (c.in_ok-ledger.ensures.0) in
+    let replays = subst (λ r. AreReplays (g.A.Application.meaning) config r histories) ring_is (c.in_ok-ledger.ensures.0) in
     let p = err_from_is_err_and c.from_residual-in_err-look_for_unsent.result c.from_residual-in_err-look_for_unsent.ensures.1 in
-    rw (p.1, p.2) (unsent_found config c.args.ring.now histories c.in_err-look_for_unsent.field-0.0 c.requires.count replays
+    rw (p.1, p.2) (unsent_found (g.A.Application.meaning) config c.args.ring.now histories c.in_err-look_for_unsent.field-0.0
+    c.requires.count replays
     c.in_err-look_for_unsent.ensures)
 
 pub returns : goal.returns
@@ -34,7 +37,7 @@ returns g c =
     let config = c.args.config.now in
     let histories = c.args.histories.now in
     let ring_is = c.in_ok-verifier.ensures in
-    let replays = subst (λ r. AreReplays config r histories) ring_is (c.in_ok-ledger.ensures.0) in
+    let replays = subst (λ r. AreReplays (g.A.Application.meaning) config r histories) ring_is (c.in_ok-ledger.ensures.0) in
     let sent = c.in_ok-look_for_unsent.ensures in
     inr (
       c.requires.count,
@@ -42,7 +45,7 @@ returns g c =
         replays,
         (
           sent,
-          ledger_of config c.args.ring.now histories c.in_ok-ledger.ledger c.requires.count replays sent
+          ledger_of (g.A.Application.meaning) config c.args.ring.now histories c.in_ok-ledger.ledger c.requires.count replays sent
               (c.in_ok-ledger.ensures.1),
         ),
       ),

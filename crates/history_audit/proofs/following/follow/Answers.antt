@@ -20,10 +20,10 @@ loop-index-preserved g c =
     let before = c.loop-index.invariant in
     let split = take_item entries i e c.loop-index-test.true c.index-entries-index.is in
     let exact = c.in_ok-follow.ensures.exact (before.2) (take i entries) (before.0) in (
-      subst (MatchesHistory c.follow.new.self.replay) (sym split)
+      subst (MatchesHistory (g.A.Application.meaning) c.follow.new.self.replay) (sym split)
           (c.in_ok-follow.ensures.matches c.if-not-branch.false (take i entries) (before.0)),
-      subst (Replay a.config a.ring a.id) (sym split)
-          (replay_more a b (take i entries) e (before.3) (before.1) (exact.0 c.if-not-branch.false)),
+      subst (Replay (g.A.Application.meaning) a.config a.ring a.id) (sym split)
+          (replay_more (g.A.Application.meaning) a b (take i entries) e (before.3) (before.1) (exact.0 c.if-not-branch.false)),
       c.in_ok-follow.ensures.lost ∙ ap not c.if-not-branch.false,
       same_later a b c.follow.new.self.replay (before.3) (c.follow.ensures.same),
     )
@@ -35,6 +35,6 @@ returns-then-not-branch-clause-answer g c =
     let e : Entry = c.index-entries-index.result in
     let before = c.loop-index.invariant in
     let split = take_item entries i e c.loop-index-test.true c.index-entries-index.is in
-    replay_ends c.args.follower.now.replay c.loop-index.follower.replay entries i e c.in_ok-follow.field-0
+    replay_ends (g.A.Application.meaning) c.args.follower.now.replay c.loop-index.follower.replay entries i e c.in_ok-follow.field-0
     (before.3) c.loop-index-test.true split
     (before.1) (c.in_ok-follow.ensures.exact (before.2) (take i entries) (before.0)) c.if-not-branch.true

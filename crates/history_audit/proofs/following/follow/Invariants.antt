@@ -7,7 +7,8 @@ use Rattle.history_audit.proofs.following.follow.Given as goal
 
 abbrev pub invariant-loop-index : goal.invariant-loop-index
 invariant-loop-index g l =
-    MatchesHistory l.follower.replay (take l.index l.entries)
-    × Replay l.fn.follower.replay.config l.fn.follower.replay.ring l.fn.follower.replay.id (take l.index l.entries)
+    MatchesHistory (g.A.Application.meaning) l.follower.replay (take l.index l.entries)
+    × Replay (g.A.Application.meaning) l.fn.follower.replay.config l.fn.follower.replay.ring l.fn.follower.replay.id
+    (take l.index l.entries)
     × (l.follower.lost ≡ false)
     × IsSameReplay l.fn.follower.replay l.follower.replay

@@ -17,7 +17,8 @@ loop-number-init g c =
     let histories = c.args.histories.now in
     let ring = c.args.verifier.now.ring in
     let apps = c.into_iter-apps.ensures.rest in (
-      subst (LongestBelow c.args.config.now ring histories 0) (sym c.new-ledger.ensures) (longest_first c.args.config.now ring histories),
+      subst (LongestBelow (g.A.Application.meaning) c.args.config.now ring histories 0) (sym c.new-ledger.ensures)
+          (longest_first (g.A.Application.meaning) c.args.config.now ring histories),
       refl,
       subst (λ n. waiting 0 histories ≤ n) (sym c.into_iter-apps.ensures.len) (subst (λ n. waiting 0 histories ≤ n) (sym c.args.apps.ok.0)
           (at_most (waiting_all 0 histories) c.requires.enough)),
@@ -47,10 +48,11 @@ unreachable-requires g c =
 pub returns-in_err-follow_one : goal.returns-in_err-follow_one
 returns-in_err-follow_one g c =
     let ring = c.loop-number.invariant.1 in
-    let found = subst (λ r. FollowsOne c.args.config.now r c.in-Some.history.now c.loop-number.ledger
+    let found = subst (λ r. FollowsOne (g.A.Application.meaning) c.args.config.now r c.in-Some.history.now c.loop-number.ledger
     (Err c.in_err-follow_one.field-0.0) c.follow_one.new.ledger) ring c.in_err-follow_one.ensures.answer in
     let p = err_from_is_err_and c.from_residual.result c.from_residual.ensures.1 in
-    rw (p.1, p.2) (stops_all c.args.config.now c.args.verifier.now.ring c.args.histories.now c.loop-number.number c.loop-number.ledger
+    rw (p.1, p.2) (stops_all (g.A.Application.meaning) c.args.config.now c.args.verifier.now.ring c.args.histories.now c.loop-number.number
+    c.loop-number.ledger
     c.in-Some.history.now c.loop-number.invariant.0 (sym (ap (history_of c.args.histories.now) c.new.ensures) ∙ sym c.in-Some.ensures)
     c.in_err-follow_one.field-0.0 c.follow_one.new.ledger found)
 
@@ -61,9 +63,11 @@ loop-number-preserved g c =
     let n = c.loop-number.number in
     let m = c.in-Some.history.now in
     let found = sym (ap (history_of histories) c.new.ensures) ∙ sym c.in-Some.ensures in
-    let followed = subst (λ r. FollowsOne c.args.config.now r m c.loop-number.ledger (Ok c.in_ok-follow_one.field-0)
+    let followed = subst (λ r. FollowsOne (g.A.Application.meaning) c.args.config.now r m c.loop-number.ledger
+    (Ok c.in_ok-follow_one.field-0)
     c.follow_one.new.ledger) ring c.in_ok-follow_one.ensures.answer in (
-      follows_one c.args.config.now c.args.verifier.now.ring histories n c.loop-number.ledger m c.loop-number.invariant.0 found
+      follows_one (g.A.Application.meaning) c.args.config.now c.args.verifier.now.ring histories n c.loop-number.ledger m
+          c.loop-number.invariant.0 found
           c.in_ok-follow_one.field-0 c.follow_one.new.ledger followed,
       c.in_ok-follow_one.ensures.ring ∙ ring,
       left (waiting (n + 1) histories) (waiting n histories) (into_iter_len c.next.new.self) (into_iter_len c.loop-number.apps)
@@ -78,7 +82,8 @@ pub loop-number-preserved-in_default : goal.loop-number-preserved-in_default
 loop-number-preserved-in_default g c =
     let histories = c.args.histories.now in
     let n = c.loop-number.number in (
-      longest_without c.args.config.now c.args.verifier.now.ring histories n c.loop-number.ledger c.loop-number.invariant.0
+      longest_without (g.A.Application.meaning) c.args.config.now c.args.verifier.now.ring histories n c.loop-number.ledger
+          c.loop-number.invariant.0
           (sym (ap (history_of histories) c.new.ensures) ∙ sym c.in_default.ensures),
       c.loop-number.invariant.1,
       at_most (waiting_less n histories) c.loop-number.invariant.2,
@@ -87,6 +92,7 @@ loop-number-preserved-in_default g c =
 
 pub returns : goal.returns
 returns g c =
-    longest_of_all c.args.config.now c.args.verifier.now.ring c.args.histories.now c.loop-number.number c.loop-number.ledger
+    longest_of_all (g.A.Application.meaning) c.args.config.now c.args.verifier.now.ring c.args.histories.now c.loop-number.number
+    c.loop-number.ledger
     c.requires.count
     c.loop-number-test.false (c.loop-number.invariant.0)

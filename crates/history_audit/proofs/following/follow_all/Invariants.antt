@@ -10,7 +10,7 @@ use Rattle.history_audit.proofs.following.follow_all.Given as goal
 
 abbrev pub invariant-loop-number : goal.invariant-loop-number
 invariant-loop-number g l =
-    LongestBelow l.config l.initial.verifier.ring l.histories l.number l.ledger
+    LongestBelow (g.A.Application.meaning) l.config l.initial.verifier.ring l.histories l.number l.ledger
     × (l.verifier.ring ≡ l.initial.verifier.ring)
     × (waiting l.number l.histories ≤ into_iter_len l.apps)
-    × AllByRecursion (λ app. g.A.Application.machine app ≡ run l.config.kind []) l.apps.rest.items
+    × AllByRecursion (λ app. g.A.Application.machine app ≡ run (g.A.Application.meaning) l.config.kind []) l.apps.rest.items

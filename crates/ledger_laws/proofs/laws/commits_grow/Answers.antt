@@ -2,4 +2,4 @@ use Rattle.ledger_model.proofs.Staying.{commits_grow as grow}
 use Rattle.ledger_laws.proofs.laws.commits_grow.Goals as goal
 
 pub returns : goal.returns
-returns c = λ config ring id entries more follows. grow config ring id entries more follows
+returns c = λ meaning config ring id entries more follows. grow meaning config ring id entries more follows

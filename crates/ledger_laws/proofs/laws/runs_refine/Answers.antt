@@ -2,4 +2,5 @@ use Rattle.ledger_laws.proofs.WorldRuns.{runs_refine as refine}
 use Rattle.ledger_laws.proofs.laws.runs_refine.Goals as goal
 
 pub returns : goal.returns
-returns c = λ config ring correct steps answers w replicas runs unforged. refine config ring correct steps answers w replicas runs unforged
+returns c = λ meaning config ring correct steps answers w replicas runs unforged. refine meaning config ring correct steps answers w
+    replicas runs unforged

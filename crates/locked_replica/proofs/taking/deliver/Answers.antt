@@ -14,8 +14,10 @@ returns-clause-taken g c =
     let shared = c.in_ok-shared.ensures.cases ∙ c.string.ensures ∙ at in
     record {
       event_is = ap event.Deliver at;
-      step = subst (λ bytes. IsStep c.args.core.now.replay (event.Deliver bytes) (Delivered c.answer_in.result) c.step.new.self.replay) shared
-          (subst (λ (r : Reply). IsStep c.args.core.now.replay (event.Deliver c.in_ok-shared.shared) r c.step.new.self.replay)
+      step = subst (λ bytes. IsStep (g.A.Application.meaning) c.args.core.now.replay (event.Deliver bytes)
+          (Delivered c.answer_in.result) c.step.new.self.replay) shared
+          (subst (λ (r : Reply). IsStep (g.A.Application.meaning) c.args.core.now.replay
+          (event.Deliver c.in_ok-shared.shared) r c.step.new.self.replay)
           c.answer_in.ensures
           told.step);
       leaves = subst (λ (r : Reply). UsesLeaves c.args.core.now.keys c.args.core.now.replay.clock r c.step.new.self.keys) c.answer_in.ensures

@@ -9,20 +9,22 @@ use Rattle.program.proofs.auditing.audit.Goals as goal
 pub returns-in_err-histories-clause-audits : goal.returns-in_err-histories-clause-audits
 returns-in_err-histories-clause-audits g c =
     let s = c.args.settings.now in
-    on_error _ _ c.from_residual.ensures.0 (outputs_nothing s.cluster.config.frames (Audited s) c.in_err-histories.ensures.read.0 _ _ _
+    on_error _ _ c.from_residual.ensures.0 (outputs_nothing s.cluster.config.frames
+    (Audited (g.A.Application.meaning) s) c.in_err-histories.ensures.read.0 _ _ _
     c.in_err-histories.ensures.read.1)
 
 pub returns-in-Some-clause-audits : goal.returns-in-Some-clause-audits
 returns-in-Some-clause-audits g c =
     let s = c.args.settings.now in
     let (input, (whole, reads)) = c.in_ok-histories.ensures.read in
-    outputs_histories s.cluster.config.frames (Audited s) input _ _ c.audit_histories.result c.deref.result.now _ _ whole
+    outputs_histories s.cluster.config.frames (Audited (g.A.Application.meaning) s) input _ _ c.audit_histories.result c.deref.result.now _
+    _ whole
     (reads ∙ ap (option_map (λ (h : Vec History Global). h.items)) c.in-Some.is ∙ ap Some (sym c.deref.ensures.value)) c.audit_histories.ensures.audits
 
 pub returns-in-None-clause-audits : goal.returns-in-None-clause-audits
 returns-in-None-clause-audits g c =
     let s = c.args.settings.now in
     let (input, (whole, none)) = c.in_ok-histories.ensures.read in
-    outputs_none s.cluster.config.frames (Audited s) input _ _ c.print_bad_history.result _ _ whole
+    outputs_none s.cluster.config.frames (Audited (g.A.Application.meaning) s) input _ _ c.print_bad_history.result _ _ whole
     (none ∙ ap (option_map (λ (h : Vec History Global). h.items)) c.in-None.is)
     c.print_bad_history.ensures.written c.print_bad_history.ensures.ending

@@ -9,20 +9,22 @@ use Rattle.program.proofs.drawing.draw.Goals as goal
 pub returns-in_err-histories-clause-draws : goal.returns-in_err-histories-clause-draws
 returns-in_err-histories-clause-draws g c =
     let s = c.args.settings.now in
-    on_error _ _ c.from_residual.ensures.0 (outputs_nothing s.cluster.config.frames (Drawn s) c.in_err-histories.ensures.read.0 _ _ _
+    on_error _ _ c.from_residual.ensures.0 (outputs_nothing s.cluster.config.frames
+    (Drawn (g.A.Application.meaning) s) c.in_err-histories.ensures.read.0 _ _ _
     c.in_err-histories.ensures.read.1)
 
 pub returns-in-Some-clause-draws : goal.returns-in-Some-clause-draws
 returns-in-Some-clause-draws g c =
     let s = c.args.settings.now in
     let (input, (whole, reads)) = c.in_ok-histories.ensures.read in
-    outputs_histories s.cluster.config.frames (Drawn s) input _ _ c.draw_histories.result c.deref.result.now _ _ whole
+    outputs_histories s.cluster.config.frames (Drawn (g.A.Application.meaning) s) input _ _ c.draw_histories.result c.deref.result.now _ _
+    whole
     (reads ∙ ap (option_map (λ (h : Vec History Global). h.items)) c.in-Some.is ∙ ap Some (sym c.deref.ensures.value)) c.draw_histories.ensures.draws
 
 pub returns-in-None-clause-draws : goal.returns-in-None-clause-draws
 returns-in-None-clause-draws g c =
     let s = c.args.settings.now in
     let (input, (whole, none)) = c.in_ok-histories.ensures.read in
-    outputs_none s.cluster.config.frames (Drawn s) input _ _ c.print_bad_history.result _ _ whole
+    outputs_none s.cluster.config.frames (Drawn (g.A.Application.meaning) s) input _ _ c.print_bad_history.result _ _ whole
     (none ∙ ap (option_map (λ (h : Vec History Global). h.items)) c.in-None.is)
     c.print_bad_history.ensures.written c.print_bad_history.ensures.ending

@@ -9,7 +9,7 @@ use Rattle.program.proofs.frame_stream.deliver_all.Goals as goal
 use Rattle.std.proofs.lemmas.List.{nil_from_length}
 
 pub loop-frame-init : goal.loop-frame-init
-loop-frame-init g c = ([], (search rules, printed_none _ _))
+loop-frame-init g c = ([], (search rules, printed_none (g.A.Application.meaning) _ _))
 
 pub loop-frame-preserved : goal.loop-frame-preserved
 loop-frame-preserved g c =
@@ -18,9 +18,10 @@ loop-frame-preserved g c =
       done ++ one,
       (
         kept.0 ∙ ap (λ l. done ++ l) c.in-Some.ensures.steps.0 ∙ sym (append_assoc done one (into_iter_items c.next.new.self)),
-        subst (λ l. Printed c.args.state.now l c.deliver_frame.new.state (g.W.Write.contents c.args.writer.now)
+        subst (λ l. Printed (g.A.Application.meaning) c.args.state.now l c.deliver_frame.new.state (g.W.Write.contents c.args.writer.now)
             (g.W.Write.contents c.deliver_frame.new.writer)) (deliveries-append done one)
-            (printed_both _ _ _ (deliveries done) (deliveries one) _ _ _ kept.1 c.in_ok-deliver_frame.ensures.prints),
+            (printed_both (g.A.Application.meaning) _ _ _ (deliveries done)
+            (deliveries one) _ _ _ kept.1 c.in_ok-deliver_frame.ensures.prints),
       ),
     )
 
@@ -30,7 +31,7 @@ returns-clause-prints g c =
     let none : into_iter_items c.loop-frame.frame-iterator ≡ [] =
     nil_from_length _ (sym c.loop-frame.frame-iterator.rest.ok.0 ∙ c.in-None.ensures.steps.0) in
     let all : c.args.frames.items ≡ done = kept.0 ∙ ap (λ l. done ++ l) none ∙ append-nil done in
-    subst (λ l. Printed c.args.state.now (deliveries l) c.loop-frame.state (g.W.Write.contents c.args.writer.now)
+    subst (λ l. Printed (g.A.Application.meaning) c.args.state.now (deliveries l) c.loop-frame.state (g.W.Write.contents c.args.writer.now)
     (g.W.Write.contents c.loop-frame.writer)) (sym all) kept.1
 
 pub returns-in_err-deliver_frame-clause-prints : goal.returns-in_err-deliver_frame-clause-prints
@@ -42,7 +43,7 @@ returns-in_err-deliver_frame-clause-prints g c =
     append_assoc (deliveries done) (deliveries one) (deliveries rest) ∙ deliveries-append done (c.in-Some.frame ∷ rest)
     ∙ ap (λ l. deliveries l) (sym (kept.0 ∙ ap (λ l. done ++ l) c.in-Some.ensures.steps.0)) in
     on_error _ _ c.from_residual.ensures.0
-    (subst (λ l. PrintedSome c.args.state.now l c.deliver_frame.new.state (g.W.Write.contents c.args.writer.now)
+    (subst (λ l. PrintedSome (g.A.Application.meaning) c.args.state.now l c.deliver_frame.new.state (g.W.Write.contents c.args.writer.now)
     (g.W.Write.contents c.deliver_frame.new.writer)) all
-    (printed_longer _ _ (deliveries done ++ deliveries one) (deliveries rest) _ _
-    (printed_after _ _ _ (deliveries done) (deliveries one) _ _ _ kept.1 c.in_err-deliver_frame.ensures.prints)))
+    (printed_longer (g.A.Application.meaning) _ _ (deliveries done ++ deliveries one) (deliveries rest) _ _
+    (printed_after (g.A.Application.meaning) _ _ _ (deliveries done) (deliveries one) _ _ _ kept.1 c.in_err-deliver_frame.ensures.prints)))

@@ -8,4 +8,5 @@ use Rattle.program.proofs.frame_stream.deliver_all.Given as goal
 abbrev pub invariant-loop-frame : goal.invariant-loop-frame
 invariant-loop-frame g l =
     (done : List SignedStatement) × ((l.fn.frames.items ≡ done ++ into_iter_items l.frame-iterator)
-    × Printed l.initial.state (deliveries done) l.state (g.W.Write.contents l.initial.writer) (g.W.Write.contents l.writer))
+    × Printed (g.A.Application.meaning) l.initial.state (deliveries done) l.state (g.W.Write.contents l.initial.writer)
+    (g.W.Write.contents l.writer))

@@ -10,14 +10,23 @@ use Rattle.program.proofs.frame_stream.deliver_frame.Goals as goal
 
 pub returns-in_err-line-clause-prints : goal.returns-in_err-line-clause-prints
 returns-in_err-line-clause-prints g c =
-    on_error _ _ c.from_residual.ensures.0 ([], (some_none _ _ _ c.in_err-line.ensures.answers, nothing_some _ []))
+    on_error _ _ c.from_residual.ensures.0 (
+      [],
+      (
+        some_none (g.A.Application.meaning) _ _ _ c.in_err-line.ensures.answers,
+        nothing_some _
+            [],
+      ),
+    )
 
 pub returns-clause-prints : goal.returns-clause-prints
 returns-clause-prints g c =
     let text = line_bytes c.in_ok-line.line in
-    let answered = subst (λ b. AnswersEvents c.args.state.now (event.Deliver b ∷ []) text c.answer.new.state) c.into_bytes.ensures.1
+    let answered = subst (λ b. AnswersEvents (g.A.Application.meaning) c.args.state.now (event.Deliver b ∷ []) text c.answer.new.state)
+    c.into_bytes.ensures.1
     c.in_ok-line.ensures.answers in
-    each_way _ _ _ _ c.print_line.result (λ _ w. (text, (answered, w))) (λ _ w. (text, (some_all _ _ _ text answered, w)))
+    each_way _ _ _ _ c.print_line.result (λ _ w. (text, (answered, w)))
+    (λ _ w. (text, (some_all (g.A.Application.meaning) _ _ _ text answered, w)))
     c.print_line.ensures.written
 
 pub returns-clause-cause : goal.returns-clause-cause

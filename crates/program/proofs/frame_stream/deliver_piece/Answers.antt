@@ -25,7 +25,7 @@ fault_behind-requires g c =
 
 pub returns-in_ok-deliver_all-in-Ok-clause-goes : goal.returns-in_ok-deliver_all-in-Ok-clause-goes
 returns-in_ok-deliver_all-in-Ok-clause-goes g c = λ start unread now left before so_far read.
-    piece_behind start _ _ unread now left before _ _ _ c.args.piece.now so_far read _ c.feed.new.self _ _
+    piece_behind (g.A.Application.meaning) start _ _ unread now left before _ _ _ c.args.piece.now so_far read _ c.feed.new.self _ _
     (c.feed.ensures.version ∙ so_far.version) (c.fault_behind.ensures.version ∙ c.feed.ensures.version ∙ so_far.version)
     c.in-Ok.ensures.frames
     c.in_ok-deliver_all-in-Ok.ensures.prints c.fault_behind.ensures.behind
@@ -33,18 +33,20 @@ returns-in_ok-deliver_all-in-Ok-clause-goes g c = λ start unread now left befor
 pub returns-in_err-deliver_all-in-Ok-clause-goes : goal.returns-in_err-deliver_all-in-Ok-clause-goes
 returns-in_err-deliver_all-in-Ok-clause-goes g c = λ start unread now left before so_far read.
     on_error _ _ c.from_residual.ensures.0
-    (piece_stops start _ _ unread now left before _ _ _ c.args.piece.now so_far read _ c.feed.new.self c.in-Ok.ensures.frames
+    (piece_stops (g.A.Application.meaning) start _ _ unread now left before _ _ _ c.args.piece.now so_far read _ c.feed.new.self
+    c.in-Ok.ensures.frames
     c.in_err-deliver_all-in-Ok.ensures.prints)
 
 pub returns-in_ok-fault_of-in-Err-clause-goes : goal.returns-in_ok-fault_of-in-Err-clause-goes
 returns-in_ok-fault_of-in-Err-clause-goes g c = λ start unread now left before so_far read.
-    piece_told start _ start unread now left before _ before _ c.args.piece.now so_far read _ c.feed.new.self _ c.in-Err.ensures.fault
+    piece_told (g.A.Application.meaning) start _ start unread now left before _ before _ c.args.piece.now so_far read _ c.feed.new.self _
+    c.in-Err.ensures.fault
     c.in_ok-fault_of-in-Err.ensures.fault
 
 pub returns-in_err-fault_of-in-Err-clause-goes : goal.returns-in_err-fault_of-in-Err-clause-goes
 returns-in_err-fault_of-in-Err-clause-goes g c = λ start unread now left before so_far read.
     on_error _ _ c.from_residual-in_err-fault_of-in-Err.ensures.0
-    (piece_lost start _ start unread now left before _ before _ c.args.piece.now so_far read)
+    (piece_lost (g.A.Application.meaning) start _ start unread now left before _ before _ c.args.piece.now so_far read)
 
 pub returns-in_ok-deliver_all-in-Ok-clause-cause : goal.returns-in_ok-deliver_all-in-Ok-clause-cause
 returns-in_ok-deliver_all-in-Ok-clause-cause g c = if_stops _ _ c.fault_behind.ensures.memory

@@ -7,17 +7,19 @@ use Rattle.program.proofs.StreamEnds.{begun, ended_of, ends_at, goes_on, stopped
 use Rattle.program.proofs.frame_stream.deliver_pieces.Goals as goal
 
 pub loop-init : goal.loop-init
-loop-init g c = begun _ _ _ _ c.requires.start c.requires.version
+loop-init g c = begun (g.A.Application.meaning) _ _ _ _ c.requires.start c.requires.version
 
 pub returns-in_err-count-clause-ends : goal.returns-in_err-count-clause-ends
 returns-in_err-count-clause-ends g c =
-    on_error _ _ c.from_residual.ensures.0 (stopped_of _ _ _ _ _ _ _ _ c.loop.invariant c.in_err-count.ensures.bytes)
+    on_error _ _ c.from_residual.ensures.0 (stopped_of (g.A.Application.meaning) _ _ _ _ _ _ _ _ c.loop.invariant
+    c.in_err-count.ensures.bytes)
 
 pub returns-then-count-eq0-clause-ends : goal.returns-then-count-eq0-clause-ends
 returns-then-count-eq0-clause-ends g c =
     let read = c.in_ok-count.ensures.bytes in
     let some : 0 < length c.read_piece.new.piece = search rules in
-    ended_of _ _ _ _ _ _ _ _ _ c.in_ok-count.count c.read_piece.new.piece c.loop.invariant read.0 c.if-count-eq0.true
+    ended_of (g.A.Application.meaning) _ _ _ _ _ _ _ _ _ c.in_ok-count.count c.read_piece.new.piece c.loop.invariant read.0
+    c.if-count-eq0.true
     (c.end_of.ensures.no_fault _ (read.1 c.if-count-eq0.true some)) c.end_of.ensures.stands
 
 pub returns-in_err-fault-clause-ends : goal.returns-in_err-fault-clause-ends
@@ -27,16 +29,16 @@ returns-in_err-fault-clause-ends g c =
 
 pub returns-in-Some-clause-ends : goal.returns-in-Some-clause-ends
 returns-in-Some-clause-ends g c =
-    ends_at _ _ _ _ _ _ c.deliver_piece.new.frames c.in_ok-fault.field-0 c.in-Some.fault c.in-Some.is
+    ends_at (g.A.Application.meaning) _ _ _ _ _ _ c.deliver_piece.new.frames c.in_ok-fault.field-0 c.in-Some.fault c.in-Some.is
     (c.in_ok-fault.ensures.goes _ _ _ _ _ c.loop.invariant c.in_ok-count.ensures.bytes.0)
 
 pub loop-preserved : goal.loop-preserved
 loop-preserved g c =
-    goes_on _ _ _ _ _ _ c.deliver_piece.new.frames c.in_ok-fault.field-0 c.in_default.is
+    goes_on (g.A.Application.meaning) _ _ _ _ _ _ c.deliver_piece.new.frames c.in_ok-fault.field-0 c.in_default.is
     (c.in_ok-fault.ensures.goes _ _ _ _ _ c.loop.invariant c.in_ok-count.ensures.bytes.0)
 
 pub returns-clause-ends : goal.returns-clause-ends
-returns-clause-ends g c = stopped_of _ _ _ _ _ _ _ _ c.loop.invariant (Keeps-refl _)
+returns-clause-ends g c = stopped_of (g.A.Application.meaning) _ _ _ _ _ _ _ _ c.loop.invariant (Keeps-refl _)
 
 pub returns-in_err-count-clause-cause : goal.returns-in_err-count-clause-cause
 returns-in_err-count-clause-cause g c =

@@ -12,7 +12,8 @@ pub returns-in_err-simulation-clause-plays : goal.returns-in_err-simulation-clau
 returns-in_err-simulation-clause-plays g c =
     let s = c.args.scenario.now in
     on_error _ _ c.from_residual.ensures.0
-    (played_nothing c.args.settings.now (plan_of s) s.setup.config (record { replicas = refl; faults = refl; kind = refl; frames = refl })
+    (played_nothing (g.A.Application.meaning) c.args.settings.now (plan_of s) s.setup.config
+    (record { replicas = refl; faults = refl; kind = refl; frames = refl })
     (g.W.Write.contents c.args.writer.now))
 
 pub returns-clause-plays : goal.returns-clause-plays
@@ -21,16 +22,18 @@ returns-clause-plays g c =
     let scenario = c.args.scenario.now in
     let first = c.in_ok-simulation.simulation in
     let last = c.play_all.new.simulation in
-    let played = subst (λ l. PlaysWritten (not s.histories) first l last (g.W.Write.contents c.args.writer.now)
+    let played = subst (λ l. PlaysWritten (g.A.Application.meaning) (not s.histories) first l last (g.W.Write.contents c.args.writer.now)
     (g.W.Write.contents c.play_all.new.writer)) c.deref.ensures.value c.in_ok-play_all.ensures.plays in
     each_way _ _ _ _ c.write_end.result
-    (λ _ w. played_whole s (plan_of scenario) scenario.setup.config (record { replicas = refl; faults = refl; kind = refl; frames = refl })
+    (λ _ w. played_whole (g.A.Application.meaning) s (plan_of scenario) scenario.setup.config
+    (record { replicas = refl; faults = refl; kind = refl; frames = refl })
     first last _ _
     _ c.in_ok-simulation.ensures.opening played c.world.ensures.since c.world.ensures.one_ledger c.world.ensures.replay
     c.world.ensures.account
     (subst (λ x. Appends (g.W.Write.contents c.play_all.new.writer) (g.W.Write.contents c.write_end.new.writer)
     (if s.histories then histories_of x else [])) c.world.ensures.world w))
-    (λ _ w. played_begun s (plan_of scenario) scenario.setup.config (record { replicas = refl; faults = refl; kind = refl; frames = refl })
+    (λ _ w. played_begun (g.A.Application.meaning) s (plan_of scenario) scenario.setup.config
+    (record { replicas = refl; faults = refl; kind = refl; frames = refl })
     first last _ _
     _ c.in_ok-simulation.ensures.opening played c.world.ensures.since c.world.ensures.one_ledger c.world.ensures.replay
     c.world.ensures.account
@@ -44,8 +47,9 @@ returns-in_err-play_all-clause-plays g c =
     let scenario = c.args.scenario.now in
     let first = c.in_ok-simulation.simulation in
     on_error _ _ c.from_residual-in_err-play_all.ensures.0
-    (played_part s (plan_of scenario) scenario.setup.config (record { replicas = refl; faults = refl; kind = refl; frames = refl }) first _
+    (played_part (g.A.Application.meaning) s (plan_of scenario) scenario.setup.config
+    (record { replicas = refl; faults = refl; kind = refl; frames = refl }) first _
     _
     c.in_ok-simulation.ensures.opening
-    (subst (λ l. PlaysWrittenSome (not s.histories) first l (g.W.Write.contents c.args.writer.now)
+    (subst (λ l. PlaysWrittenSome (g.A.Application.meaning) (not s.histories) first l (g.W.Write.contents c.args.writer.now)
     (g.W.Write.contents c.play_all.new.writer)) c.deref.ensures.value c.in_err-play_all.ensures.plays))

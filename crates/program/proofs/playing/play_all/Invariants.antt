@@ -5,5 +5,6 @@ use Rattle.program.proofs.playing.play_all.Given as goal
 
 abbrev pub invariant-loop-command : goal.invariant-loop-command
 invariant-loop-command g l =
-    PlaysWritten l.has_lines l.initial.simulation (take l.command-index l.commands) l.simulation (g.W.Write.contents l.initial.writer)
+    PlaysWritten (g.A.Application.meaning) l.has_lines l.initial.simulation (take l.command-index l.commands) l.simulation
+    (g.W.Write.contents l.initial.writer)
     (g.W.Write.contents l.writer)

@@ -5,8 +5,9 @@ use Rattle.program.proofs.replica.end_round.Goals as goal
 pub returns-clause-answers : goal.returns-clause-answers
 returns-clause-answers g c =
     let told = c.apply-outcome.ensures in
-    taken_silently c.args.state.now c.apply-outcome.new.self event.RoundEnd c.apply-outcome.result c.taken.result c.taken.ensures.same
-    told.applied told.refused told.sound (round_end_silent c.args.state.now)
+    taken_silently (g.A.Application.meaning) c.args.state.now c.apply-outcome.new.self event.RoundEnd c.apply-outcome.result c.taken.result
+    c.taken.ensures.same
+    told.applied told.refused told.sound (round_end_silent (g.A.Application.meaning) c.args.state.now)
 
 pub returns-clause-cause : goal.returns-clause-cause
 returns-clause-cause g c =

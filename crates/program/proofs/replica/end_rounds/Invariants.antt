@@ -5,4 +5,4 @@ use Rattle.program.specs.Answering.{AnswersEvents}
 use Rattle.program.proofs.replica.end_rounds.Given as goal
 
 abbrev pub invariant-loop : goal.invariant-loop
-invariant-loop g l = AnswersEvents l.initial.state (replicate l.counter event.RoundEnd) [] l.state
+invariant-loop g l = AnswersEvents (g.A.Application.meaning) l.initial.state (replicate l.counter event.RoundEnd) [] l.state

@@ -5,8 +5,9 @@ use Rattle.program.proofs.replica.submit.Goals as goal
 pub returns-clause-answers : goal.returns-clause-answers
 returns-clause-answers g c =
     let told = c.apply-outcome.ensures in
-    taken_silently c.args.state.now c.apply-outcome.new.self (event.Submit c.args.bytes) c.apply-outcome.result c.taken.result c.taken.ensures.same
-    told.applied told.refused told.sound (submit_silent c.args.state.now c.args.bytes)
+    taken_silently (g.A.Application.meaning) c.args.state.now c.apply-outcome.new.self
+    (event.Submit c.args.bytes) c.apply-outcome.result c.taken.result c.taken.ensures.same
+    told.applied told.refused told.sound (submit_silent (g.A.Application.meaning) c.args.state.now c.args.bytes)
 
 pub returns-clause-cause : goal.returns-clause-cause
 returns-clause-cause g c =

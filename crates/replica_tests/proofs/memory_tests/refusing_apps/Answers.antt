@@ -1,6 +1,7 @@
 use Rattle.std.proofs.Common.{◌≡◌, ◌∙◌, [], ap, rules, subst, sym}
 use Rattle.std.specs.Prelude.{All}
 use Rattle.std.proofs.lemmas.List.Elements.{All-push}
+use Rattle.ledger_model.specs.Kinds.{meaning_of}
 use Rattle.ledger_model.specs.Applications.{run}
 use Rattle.app_kinds.specs.Chosen.{machine_of}
 use Rattle.replica_tests.proofs.memory_tests.refusing_apps.Goals as goal
@@ -8,7 +9,7 @@ use Rattle.replica_tests.proofs.memory_tests.refusing_apps.Goals as goal
 pub loop-preserved : goal.loop-preserved
 loop-preserved c = record {
   count = search rules;
-  opening = subst (λ apps. All (λ app. machine_of app.app ≡ run c.args.kind []) apps) (sym c.in_ok-push.ensures.items)
-      (All-push (λ app. machine_of app.app ≡ run c.args.kind []) c.loop.apps.items c.new-in-loop.result c.loop.invariant.opening
+  opening = subst (λ apps. All (λ app. machine_of app.app ≡ run meaning_of c.args.kind []) apps) (sym c.in_ok-push.ensures.items)
+      (All-push (λ app. machine_of app.app ≡ run meaning_of c.args.kind []) c.loop.apps.items c.new-in-loop.result c.loop.invariant.opening
       (ap machine_of c.new-in-loop.ensures.app ∙ c.new.ensures.new));
 }

@@ -13,9 +13,10 @@ answer_at-requires g c =
     let added = c.in_ok-index.ensures.applied in
     let batches = commits_of old.config old.id old.entries in (
       _,
-      query_added old.config old.ring old.id old.entries c.apply.new.self.entries c.args.key c.new.result added.reply c.in_ok-index.index
+      query_added (g.A.Application.meaning) old.config old.ring old.id old.entries c.apply.new.self.entries c.args.key c.new.result
+          added.reply c.in_ok-index.index
           c.in_ok-index.ensures.index c.new.ensures added.added added.lawful
-          ∙ ap Some (last_answer old.config.kind batches c.args.key),
+          ∙ ap Some (last_answer (g.A.Application.meaning) old.config.kind batches c.args.key),
     )
 
 pub returns-clause-answer : goal.returns-clause-answer
@@ -23,8 +24,9 @@ returns-clause-answer g c =
     let old = c.args.state.now in
     let added = c.in_ok-index.ensures.applied in
     let told : query_reply_at (slice_get c.apply.new.self.entries c.in_ok-index.index)
-    ≡ Some (query_reply old.config.kind (commits_of old.config old.id old.entries) c.args.key 0) =
-    query_added old.config old.ring old.id old.entries c.apply.new.self.entries c.args.key c.new.result added.reply c.in_ok-index.index
+    ≡ Some (query_reply (g.A.Application.meaning) old.config.kind (commits_of old.config old.id old.entries) c.args.key 0) =
+    query_added (g.A.Application.meaning) old.config old.ring old.id old.entries c.apply.new.self.entries c.args.key c.new.result
+    added.reply c.in_ok-index.index
     c.in_ok-index.ensures.index c.new.ensures added.added added.lawful in
     cc (told, c.in_ok-answer_at.ensures)
 

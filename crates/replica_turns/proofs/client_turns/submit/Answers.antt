@@ -20,7 +20,8 @@ returns-then-tx-gt-MAX_LEN-clause-applied g c = grind (arith, common_steps)
 
 pub returns-clause-applied : goal.returns-clause-applied
 returns-clause-applied g c =
-    one_submit c.args.tx.now c.args.state.now c.submit_event.new.state (grind (arith, common_steps)) c.in_ok-answer.ensures.applied
+    one_submit (g.A.Application.meaning) c.args.tx.now c.args.state.now c.submit_event.new.state
+    (grind (arith, common_steps)) c.in_ok-answer.ensures.applied
 
 pub returns-clause-sound : goal.returns-clause-sound
 returns-clause-sound g c = c.in_ok-answer.ensures.sound

@@ -10,7 +10,7 @@ use Rattle.replica_turns.proofs.turns.take_all.Goals as goal
 pub loop-event-preserved : goal.loop-event-preserved
 loop-event-preserved g c = record {
   split = grind (arith, common_steps);
-  applied = applies_more c.loop-event.yielded c.args.state.now c.loop-event.state c.apply.new.self c.in-Some.event
+  applied = applies_more (g.A.Application.meaning) c.loop-event.yielded c.args.state.now c.loop-event.state c.apply.new.self c.in-Some.event
       c.loop-event.invariant.applied c.in_ok-apply.ensures.applied;
   sound = c.in_ok-apply.ensures.sound;
 }
@@ -22,7 +22,8 @@ of_the_error (Err why) P e is holds = subst P (sym is) holds
 
 pub returns-in_err-apply-clause-refused : goal.returns-in_err-apply-clause-refused
 returns-in_err-apply-clause-refused g c =
-    of_the_error c.from_residual.result (λ why. AppliesSome c.args.state.now c.args.events.items why c.apply.new.self) c.in_err-apply.field-0.0
+    of_the_error c.from_residual.result (λ why. AppliesSome (g.A.Application.meaning) c.args.state.now c.args.events.items why
+    c.apply.new.self) c.in_err-apply.field-0.0
     c.from_residual.ensures.1 (record {
       before = c.loop-event.yielded;
       refused = c.in-Some.event;

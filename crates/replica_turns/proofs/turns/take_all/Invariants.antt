@@ -7,6 +7,6 @@ use Rattle.replica_turns.proofs.turns.take_all.Given as goal
 abbrev pub invariant-loop-event : goal.invariant-loop-event
 invariant-loop-event g l = record {
   split : l.yielded ++ into_iter_items l.event-iterator ≡ l.fn.events.items;
-  applied : AppliesEach l.initial.state l.yielded l.state;
-  sound : IsSound l.state;
+  applied : AppliesEach (g.A.Application.meaning) l.initial.state l.yielded l.state;
+  sound : IsSound (g.A.Application.meaning) l.state;
 }

@@ -9,6 +9,6 @@ use Rattle.run_picture.proofs.deciding.add_decisions.Given as goal
 
 abbrev pub invariant-loop-height : goal.invariant-loop-height
 invariant-loop-height g l =
-    (entries : List Entry) → MatchesHistory l.replay entries → l.out.items ≡ l.fn.out.items
+    (entries : List Entry) → MatchesHistory (g.A.Application.meaning) l.replay entries → l.out.items ≡ l.fn.out.items
     ++ flat_map (λ h. mark_if l.part l.replica l.index l.clock h (decision_at l.replay.config l.replay.id entries h))
     (take l.height-index l.heights)

@@ -31,9 +31,11 @@ loop-index-preserved g c =
     let follows = c.in_ok-follow_entry.ensures.follows in
     let yes = c.if-not-branch.false in
     let count : length (take i entries) ≡ i = length-take-le i entries (let inside = c.loop-index-test.true in omega (arith, inside)) in (
-      subst (MatchesHistory c.follow_entry.new.follower.replay) (sym split) (follows.matches yes (take i entries) (before.0)),
-      subst (Replay a.config a.ring a.id) (sym split)
-          (replay_more a b (take i entries) e (before.3) (before.1) ((follows.exact (take i entries) (before.0)).0 yes)),
+      subst (MatchesHistory (g.A.Application.meaning) c.follow_entry.new.follower.replay) (sym split)
+          (follows.matches yes (take i entries) (before.0)),
+      subst (Replay (g.A.Application.meaning) a.config a.ring a.id) (sym split)
+          (replay_more (g.A.Application.meaning) a b (take i entries) e (before.3) (before.1)
+          ((follows.exact (take i entries) (before.0)).0 yes)),
       follows.lost ∙ ap not yes,
       same_later a b c.follow_entry.new.follower.replay (before.3) (c.follow_entry.ensures.same),
       decided_more a b c.args.part.now entries i e c.args.marks.now.decisions.items c.loop-index.marks.decisions.items
@@ -50,7 +52,8 @@ returns-then-not-branch-clause-follows g c =
     let before = c.loop-index.invariant in
     let follows = c.in_ok-follow_entry.ensures.follows in
     let split = take_item entries i e c.loop-index-test.true c.index-entries-index.is in
-    let stops = replay_ends c.args.follower.now.replay c.loop-index.follower.replay entries i e c.in_ok-follow_entry.field-0
+    let stops = replay_ends (g.A.Application.meaning) c.args.follower.now.replay c.loop-index.follower.replay entries i e
+    c.in_ok-follow_entry.field-0
     (before.3) c.loop-index-test.true split (before.1) (follows.exact (take i entries) (before.0)) c.if-not-branch.true in
     record {
       longest = record {
@@ -65,5 +68,6 @@ returns-then-not-branch-clause-follows g c =
 pub returns-clause-follows : goal.returns-clause-follows
 returns-clause-follows g c =
     let before = c.loop-index.invariant in
-    all_followed c.args.follower.now.replay c.args.part.now c.args.entries.now c.loop-index.index c.args.marks.now c.loop-index.marks
+    all_followed (g.A.Application.meaning) c.args.follower.now.replay c.args.part.now c.args.entries.now c.loop-index.index c.args.marks.now
+    c.loop-index.marks
     c.loop-index-test.false (before.1) (before.4) (before.5)

@@ -11,7 +11,8 @@ pub loop-number-init : goal.loop-number-init
 loop-number-init g c =
     let apps = c.into_iter-apps.ensures.rest in
     let len = c.into_iter-apps.ensures.len in (
-      rows_none c.args.scope.now.config c.args.verifier.now.ring c.args.scope.now.part c.args.histories.now c.nothing_collected-collected.result
+      rows_none (g.A.Application.meaning) c.args.scope.now.config c.args.verifier.now.ring c.args.scope.now.part c.args.histories.now
+          c.nothing_collected-collected.result
           c.nothing_collected-collected.ensures,
       refl,
       enough c.args.scope.now.config.replicas (into_iter_len c.into_iter-apps.result) c.args.apps.len (length c.args.apps.items) len
@@ -43,11 +44,15 @@ loop-number-preserved g c =
     let is : c.new-replica.result ≡ n = c.new-replica.ensures in
     let of : option_copied c.history_of-history.result ≡ history_of histories n =
     c.history_of-history.ensures ∙ ap (history_of histories) is in (
-      rows_more config c.args.verifier.now.ring part histories n c.loop-number.collected c.add_row.new.collected c.loop-number.invariant.0
-          (subst (λ h. AddsRow config c.args.verifier.now.ring part n h c.loop-number.collected c.add_row.new.collected) of
-          (subst (λ q. AddsRow config c.args.verifier.now.ring part q (option_copied c.history_of-history.result) c.loop-number.collected
+      rows_more (g.A.Application.meaning) config c.args.verifier.now.ring part histories n c.loop-number.collected c.add_row.new.collected
+          c.loop-number.invariant.0
+          (subst (λ h. AddsRow (g.A.Application.meaning) config c.args.verifier.now.ring part n h c.loop-number.collected
+          c.add_row.new.collected) of
+          (subst (λ q. AddsRow (g.A.Application.meaning) config c.args.verifier.now.ring part q
+          (option_copied c.history_of-history.result) c.loop-number.collected
           c.add_row.new.collected) is
-          (subst (λ r. AddsRow config r part c.new-replica.result (option_copied c.history_of-history.result) c.loop-number.collected
+          (subst (λ r. AddsRow (g.A.Application.meaning) config r part c.new-replica.result
+          (option_copied c.history_of-history.result) c.loop-number.collected
           c.add_row.new.collected) ring c.in_ok-add_row.ensures.adds))),
       c.in_ok-add_row.ensures.ring ∙ ring,
       left config.replicas n (into_iter_len c.next.new.self) (into_iter_len c.loop-number.apps) c.loop-number.invariant.2
@@ -60,7 +65,8 @@ loop-number-preserved g c =
 
 pub returns : goal.returns
 returns g c =
-    subst (λ n. Collects c.args.scope.now.config c.args.verifier.now.ring c.args.scope.now.part c.args.histories.now n
+    subst (λ n. Collects (g.A.Application.meaning) c.args.scope.now.config c.args.verifier.now.ring c.args.scope.now.part
+    c.args.histories.now n
     c.loop-number.collected) (all c.loop-number.number c.args.scope.now.config.replicas c.loop-number-test.false (c.loop-number.auto.number-end))
     c.loop-number.invariant.0
   where

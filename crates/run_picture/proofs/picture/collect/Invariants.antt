@@ -8,7 +8,7 @@ use Rattle.run_picture.proofs.picture.collect.Given as goal
 
 abbrev pub invariant-loop-number : goal.invariant-loop-number
 invariant-loop-number g l =
-    Collects l.scope.config l.initial.verifier.ring l.scope.part l.histories l.number l.collected
+    Collects (g.A.Application.meaning) l.scope.config l.initial.verifier.ring l.scope.part l.histories l.number l.collected
     × (l.verifier.ring ≡ l.initial.verifier.ring)
     × (l.scope.config.replicas ≤ l.number + into_iter_len l.apps)
-    × AllByRecursion (λ app. g.A.Application.machine app ≡ run l.scope.config.kind []) l.apps.rest.items
+    × AllByRecursion (λ app. g.A.Application.machine app ≡ run (g.A.Application.meaning) l.scope.config.kind []) l.apps.rest.items

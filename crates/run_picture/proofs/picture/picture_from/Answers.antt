@@ -4,7 +4,7 @@ use Rattle.run_picture.specs.Sources.{arrival_of}
 use Rattle.run_picture.proofs.picture.picture_from.Goals as goal
 
 pub returns : goal.returns
-returns c = λ ring histories all. record {
+returns c = λ meaning ring histories all. record {
   shown = all.rows;
   count = all.count;
   replays = all.replays;

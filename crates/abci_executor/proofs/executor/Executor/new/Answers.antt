@@ -8,7 +8,7 @@ unfolding run
 init_chain-requires g c = ap (λ (m : Machine). m.height) c.requires
 
 pub invariant_of-result : goal.invariant_of-result
-invariant_of-result g c = rw c.in_ok-init_chain.ensures (reached_first _ c.requires)
+invariant_of-result g c = rw c.in_ok-init_chain.ensures (reached_first (g.A.Application.meaning) _ c.requires)
 
 pub returns : goal.returns
-returns g c = rw c.in_ok-init_chain.ensures (opens _ c.requires ∙ c.requires)
+returns g c = rw c.in_ok-init_chain.ensures (opens (g.A.Application.meaning) _ c.requires ∙ c.requires)

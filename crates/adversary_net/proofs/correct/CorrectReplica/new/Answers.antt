@@ -7,5 +7,6 @@ use Rattle.adversary_net.proofs.correct.CorrectReplica.new.Goals as goal
 -- nothing happened yet
 pub invariant_of-result : goal.invariant_of-result
 unfolding RunsAlone commits_of
-invariant_of-result g c = subst (λ (s : StateView). IsKept c.new-2.result.sending.items c.new-2.result.total s) (sym c.in_ok-new.ensures)
+invariant_of-result g c = subst (λ (s : StateView). IsKept (g.A.Application.meaning) c.new-2.result.sending.items c.new-2.result.total s)
+    (sym c.in_ok-new.ensures)
     (record { indexed = c.new-2.ensures; machine = refl })

@@ -15,7 +15,8 @@ returns-in-None-clause-refused g c =
     let w = world_of c.args.self.now in
     let none : slice_get (frames_sent (entries_in w c.args.from)) c.args.index ≡ None =
     ap (λ es. slice_get (frames_sent es) c.args.index) c.in_ok-sender.ensures.from ∙ sym c.frame.ensures ∙ ap option_copied c.in-None.is in
-    refuses c.args.self.now (passes c.args.self.now.config w c.args.from c.args.index c.args.to) refused.NoSuchFrame
+    refuses (g.A.Application.meaning) c.args.self.now (passes c.args.self.now.config w c.args.from c.args.index c.args.to)
+    refused.NoSuchFrame
     (passes_none c.args.self.now.config w c.args.from c.args.index c.args.to c.in_ok-sender.ensures.no_fault none)
 
 pub returns-in-Some-clause-refused : goal.returns-in-Some-clause-refused
@@ -33,5 +34,5 @@ returns-in-Some-clause-refused g c =
       ap length c.in_ok-sender.ensures.to,
       ap (λ (s : StateView). length s.entries) c.state.ensures,
     ) in
-    full c.args.self.now (passes c.args.self.now.config w c.args.from c.args.index c.args.to) c.args.to
+    full (g.A.Application.meaning) c.args.self.now (passes c.args.self.now.config w c.args.from c.args.index c.args.to) c.args.to
     (event.Deliver c.in-Some.field-0.now) is le

@@ -57,14 +57,14 @@ returns-in_err-delivery-in-Pass g c =
 pub returns-in_default : goal.returns-in_default
 unfolding event_of
 returns-in_default g c =
-    rw c.in-Submit.is (no_memory c.args.self.now
+    rw c.in-Submit.is (no_memory (g.A.Application.meaning) c.args.self.now
     (asks c.args.self.now.config (world_of c.args.self.now) c.in-Submit.replica (event.Submit c.in-Submit.bytes)) c.in-Submit.replica
     (event.Submit c.in-Submit.bytes) (c.in_ok-room-in-Submit.ensures.ready (event.Submit c.in-Submit.bytes)))
 
 pub returns-in_default-copy : goal.returns-in_default-copy
 unfolding event_of
 returns-in_default-copy g c =
-    rw c.in-Query.is (no_memory c.args.self.now
+    rw c.in-Query.is (no_memory (g.A.Application.meaning) c.args.self.now
     (asks c.args.self.now.config (world_of c.args.self.now) c.in-Query.replica (event.Query c.in-Query.key c.in-Query.height))
     c.in-Query.replica (event.Query c.in-Query.key c.in-Query.height)
     (c.in_ok-room-in-Query.ensures.ready (event.Query c.in-Query.key c.in-Query.height)))
@@ -72,7 +72,7 @@ returns-in_default-copy g c =
 pub returns-in_default-clone : goal.returns-in_default-clone
 unfolding event_of
 returns-in_default-clone g c =
-    rw c.in-Inject.is (no_memory c.args.self.now
+    rw c.in-Inject.is (no_memory (g.A.Application.meaning) c.args.self.now
     (asks c.args.self.now.config (world_of c.args.self.now) c.in-Inject.to (event.Deliver c.in-Inject.bytes)) c.in-Inject.to
     (event.Deliver c.in-Inject.bytes) (c.in_ok-room-in-Inject.ensures.ready (event.Deliver c.in-Inject.bytes)))
 

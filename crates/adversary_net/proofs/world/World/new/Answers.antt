@@ -13,28 +13,33 @@ parties_of-requires-clause-supply g c =
     record {
       an_app = omega (arith, ap length c.into_iter.ensures.rest, c.args.apps.ok, c.requires.apps may);
       a_pair = omega (arith, ap length c.into_iter-2.ensures.rest, c.args.randoms.ok, c.requires.randoms may);
-      opening = All-same (λ a. g.A.Application.machine a ≡ run c.args.cluster.now.config.kind []) (into_iter_items c.into_iter.result)
+      opening = All-same (λ a. g.A.Application.machine a ≡ run (g.A.Application.meaning) c.args.cluster.now.config.kind [])
+          (into_iter_items c.into_iter.result)
           c.args.apps.items c.into_iter.ensures.rest c.requires.opening;
     }
 
 pub invariant_of-result : goal.invariant_of-result
 invariant_of-result g c =
-    let is = new_is c.args.cluster.now.config (secret_of c.args.cluster.now) c.args.liars.now c.in_ok-signers.field-0.ring
+    let is = new_is (g.A.Application.meaning) c.args.cluster.now.config
+    (secret_of c.args.cluster.now) c.args.liars.now c.in_ok-signers.field-0.ring
     c.in_ok-parties_of.field-0.items c.new.result.items c.in_ok-signers.ensures.ring c.in_ok-parties_of.ensures c.new.ensures.items in
-    subst IsCluster (sym is) (new_is_cluster c.args.cluster.now.config (secret_of c.args.cluster.now) c.args.liars.now
+    subst (IsCluster (g.A.Application.meaning)) (sym is) (new_is_cluster (g.A.Application.meaning) c.args.cluster.now.config
+    (secret_of c.args.cluster.now) c.args.liars.now
     c.in_ok-check_liars.ensures.may.few)
 
 pub returns-clause-new : goal.returns-clause-new
 returns-clause-new g c =
-    let is = new_is c.args.cluster.now.config (secret_of c.args.cluster.now) c.args.liars.now c.in_ok-signers.field-0.ring
+    let is = new_is (g.A.Application.meaning) c.args.cluster.now.config
+    (secret_of c.args.cluster.now) c.args.liars.now c.in_ok-signers.field-0.ring
     c.in_ok-parties_of.field-0.items c.new.result.items c.in_ok-signers.ensures.ring c.in_ok-parties_of.ensures c.new.ensures.items in
     is
 
 pub returns-clause-begins : goal.returns-clause-begins
 returns-clause-begins g c =
-    let is = new_is c.args.cluster.now.config (secret_of c.args.cluster.now) c.args.liars.now c.in_ok-signers.field-0.ring
+    let is = new_is (g.A.Application.meaning) c.args.cluster.now.config
+    (secret_of c.args.cluster.now) c.args.liars.now c.in_ok-signers.field-0.ring
     c.in_ok-parties_of.field-0.items c.new.result.items c.in_ok-signers.ensures.ring c.in_ok-parties_of.ensures c.new.ensures.items in
-    ap world_of is ∙ new_world c.args.cluster.now.config (secret_of c.args.cluster.now) c.args.liars.now
+    ap world_of is ∙ new_world (g.A.Application.meaning) c.args.cluster.now.config (secret_of c.args.cluster.now) c.args.liars.now
 
 pub returns-clause-replicas : goal.returns-clause-replicas
 returns-clause-replicas g c =

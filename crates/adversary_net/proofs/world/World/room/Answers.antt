@@ -11,7 +11,7 @@ pub returns-in_err-correct-clause-refused : goal.returns-in_err-correct-clause-r
 returns-in_err-correct-clause-refused g c =
     let w = world_of c.args.self.now in
     let p = err_from_is_err_and c.from_residual.result c.from_residual.ensures.1 in
-    rw (p.1, p.2) (λ event. refuses c.args.self.now (asks c.args.self.now.config w c.args.replica event) _
+    rw (p.1, p.2) (λ event. refuses (g.A.Application.meaning) c.args.self.now (asks c.args.self.now.config w c.args.replica event) _
     (asks_fault c.args.self.now.config w c.args.replica event _ c.in_err-correct.ensures.fault))
 
 pub returns-then-len-ge-MAX_ENTRIES-clause-refused : goal.returns-then-len-ge-MAX_ENTRIES-clause-refused
@@ -25,7 +25,7 @@ returns-then-len-ge-MAX_ENTRIES-clause-refused g c =
       ap length c.in_ok-correct.ensures.entries,
       ap (λ (s : StateView). length s.entries) c.state.ensures,
     ) in
-    λ event. full c.args.self.now (asks c.args.self.now.config w c.args.replica event) c.args.replica event
+    λ event. full (g.A.Application.meaning) c.args.self.now (asks c.args.self.now.config w c.args.replica event) c.args.replica event
     (asks_event c.args.self.now.config w c.args.replica event c.in_ok-correct.ensures.no_fault) le
 
 pub returns-clause-ready : goal.returns-clause-ready

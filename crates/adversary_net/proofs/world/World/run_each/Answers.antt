@@ -11,12 +11,13 @@ use Rattle.adversary_net.proofs.world.World.run_each.Goals as goal
 
 pub loop-step-init : goal.loop-step-init
 loop-step-init g c = record {
-  runs = subst (λ answers. Runs c.args.self.now.config c.args.self.now.ring (world_of c.args.self.now) [] answers
-      (world_of c.args.self.now)) (sym c.requires.none) (no_steps c.args.self.now);
+  runs = subst (λ answers. Runs (g.A.Application.meaning) c.args.self.now.config c.args.self.now.ring (world_of c.args.self.now) [] answers
+      (world_of c.args.self.now)) (sym c.requires.none) (no_steps (g.A.Application.meaning) c.args.self.now);
   same = same_as c.args.self.now;
   cluster = c.requires.cluster;
   leaves = uses_none c.args.self.now c.args.answers.now.items;
-  each = subst (λ answers. AreAnswered c.args.self.now [] answers c.args.self.now) (sym c.requires.none) (answered_none c.args.self.now);
+  each = subst (λ answers. AreAnswered (g.A.Application.meaning) c.args.self.now [] answers c.args.self.now) (sym c.requires.none)
+      (answered_none (g.A.Application.meaning) c.args.self.now);
   count = search rules;
   room = omega (arith, c.requires.room);
 }
@@ -25,10 +26,12 @@ pub loop-step-preserved : goal.loop-step-preserved
 loop-step-preserved g c =
     let was = c.loop-step.invariant in
     let next = take_next c.args.steps.now c.loop-step.step-index c.step-item.result c.loop-step-test.true c.step-item.is in
-    let went : Went c.loop-step.self c.step-outcome.new.self c.step-item.result c.reply_of-answer.result =
-    subst (λ a. Went c.loop-step.self c.step-outcome.new.self c.step-item.result a) (sym c.reply_of-answer.ensures) c.step-outcome.ensures
+    let went : Went (g.A.Application.meaning) c.loop-step.self c.step-outcome.new.self c.step-item.result c.reply_of-answer.result =
+    subst (λ a. Went (g.A.Application.meaning) c.loop-step.self c.step-outcome.new.self c.step-item.result a)
+    (sym c.reply_of-answer.ensures) c.step-outcome.ensures
     in
-    let runs = run_more c.args.self.now c.loop-step.self c.step-outcome.new.self (take c.loop-step.step-index c.args.steps.now)
+    let runs = run_more (g.A.Application.meaning) c.args.self.now c.loop-step.self c.step-outcome.new.self
+    (take c.loop-step.step-index c.args.steps.now)
     c.loop-step.answers.items c.step-item.result c.reply_of-answer.result was.runs was.same went in
     record {
       runs = rw (next, c.in-Ok.ensures.items) runs;
@@ -38,7 +41,8 @@ loop-step-preserved g c =
           (uses_more c.args.self.now c.loop-step.self c.step-outcome.new.self c.loop-step.answers.items c.step-item.result
           c.reply_of-answer.result was.leaves went.answered.leaves);
       each = rw (next, c.in-Ok.ensures.items)
-          (answered_more c.args.self.now c.loop-step.self c.step-outcome.new.self (take c.loop-step.step-index c.args.steps.now)
+          (answered_more (g.A.Application.meaning) c.args.self.now c.loop-step.self c.step-outcome.new.self
+          (take c.loop-step.step-index c.args.steps.now)
           c.loop-step.answers.items c.step-item.result c.reply_of-answer.result was.each went.answered);
       count = omega (arith, was.count, c.in-Ok.ensures.len);
       room = omega (arith, was.room, c.in-Ok.ensures.capacity);
@@ -50,11 +54,12 @@ unreachable-requires g c = omega
 
 pub returns-clause-runs : goal.returns-clause-runs
 returns-clause-runs g c =
-    subst (λ steps. Runs c.args.self.now.config c.args.self.now.ring (world_of c.args.self.now) steps c.loop-step.answers.items
+    subst (λ steps. Runs (g.A.Application.meaning) c.args.self.now.config c.args.self.now.ring
+    (world_of c.args.self.now) steps c.loop-step.answers.items
     (world_of c.loop-step.self))
     (take_all c.loop-step.step-index c.args.steps.now c.loop-step-test.false) c.loop-step.invariant.runs
 
 pub returns-clause-each : goal.returns-clause-each
 returns-clause-each g c =
-    subst (λ steps. AreAnswered c.args.self.now steps c.loop-step.answers.items c.loop-step.self)
+    subst (λ steps. AreAnswered (g.A.Application.meaning) c.args.self.now steps c.loop-step.answers.items c.loop-step.self)
     (take_all c.loop-step.step-index c.args.steps.now c.loop-step-test.false) c.loop-step.invariant.each

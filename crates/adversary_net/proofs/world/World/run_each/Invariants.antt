@@ -9,12 +9,13 @@ use Rattle.adversary_net.proofs.world.World.run_each.Given as goal
 -- the steps so far are a run, each has its answer, and there is room for the rest
 abbrev pub invariant-loop-step : goal.invariant-loop-step
 invariant-loop-step g l = record {
-  runs : Runs l.initial.self.config l.initial.self.ring (world_of l.initial.self) (take l.step-index l.steps) l.answers.items
+  runs : Runs (g.A.Application.meaning) l.initial.self.config l.initial.self.ring (world_of l.initial.self)
+      (take l.step-index l.steps) l.answers.items
       (world_of l.self);
   same : IsSameCluster l.initial.self l.self;
-  cluster : IsCluster l.self;
+  cluster : IsCluster (g.A.Application.meaning) l.self;
   leaves : UsesAsAnswered l.initial.self l.answers.items l.self;
-  each : AreAnswered l.initial.self (take l.step-index l.steps) l.answers.items l.self;
+  each : AreAnswered (g.A.Application.meaning) l.initial.self (take l.step-index l.steps) l.answers.items l.self;
   count : vec_len l.answers ≡ l.step-index;
   room : length l.steps ≤ vec_capacity l.answers;
 }

@@ -11,7 +11,8 @@ pub invariant_of-self : goal.invariant_of-self
 invariant_of-self g c =
     let within : c.from-place.result < length c.self.inside.parties.items =
     omega (arith, c.if-place-len.false, c.len.ensures, c.self.inside.parties.ok) in
-    signed_keeps (λ v. v.items) c.self.view_is (c.from-place.ensures ∙ c.number.ensures) within c.index_mut.ensures.value
+    signed_keeps (g.A.Application.meaning) (λ v. v.items) c.self.view_is
+    (c.from-place.ensures ∙ c.number.ensures) within c.index_mut.ensures.value
     c.signature_of.new.party c.args.message.now c.signature_of.result c.self.invariant
     c.signature_of.ensures.signs c.signature_of.ensures.same
 
@@ -19,19 +20,22 @@ pub returns-clause-signs : goal.returns-clause-signs
 returns-clause-signs g c =
     let within : c.from-place.result < length c.self.inside.parties.items =
     omega (arith, c.if-place-len.false, c.len.ensures, c.self.inside.parties.ok) in
-    signs_after (λ v. v.items) c.self.view_is (c.from-place.ensures ∙ c.number.ensures) within c.index_mut.ensures.value
+    signs_after (g.A.Application.meaning) (λ v. v.items) c.self.view_is
+    (c.from-place.ensures ∙ c.number.ensures) within c.index_mut.ensures.value
     c.signature_of.new.party c.args.message.now c.signature_of.result c.signature_of.ensures.signs
 
 pub returns-clause-none : goal.returns-clause-none
 returns-clause-none g c =
     let within : c.from-place.result < length c.self.inside.parties.items =
     omega (arith, c.if-place-len.false, c.len.ensures, c.self.inside.parties.ok) in
-    none_after (λ v. v.items) c.self.view_is (c.from-place.ensures ∙ c.number.ensures) within c.index_mut.ensures.value
+    none_after (g.A.Application.meaning) (λ v. v.items) c.self.view_is
+    (c.from-place.ensures ∙ c.number.ensures) within c.index_mut.ensures.value
     c.signature_of.new.party c.args.message.now c.signature_of.result c.signature_of.ensures.none
 
 pub returns-clause-same : goal.returns-clause-same
 returns-clause-same g c =
     let within : c.from-place.result < length c.self.inside.parties.items =
     omega (arith, c.if-place-len.false, c.len.ensures, c.self.inside.parties.ok) in
-    same_after (λ v. v.items) c.self.view_is (c.from-place.ensures ∙ c.number.ensures) within c.index_mut.ensures.value
+    same_after (g.A.Application.meaning) (λ v. v.items) c.self.view_is
+    (c.from-place.ensures ∙ c.number.ensures) within c.index_mut.ensures.value
     c.signature_of.new.party c.args.message.now c.signature_of.result c.signature_of.ensures.same

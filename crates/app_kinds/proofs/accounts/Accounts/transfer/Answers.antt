@@ -1,7 +1,7 @@
 -- What the sender pays the receiver gets.
-use Rattle.std.proofs.Common.{◌≡◌, ◌+◌, ◌<◌, ◌≤◌, length, get_or, ap, sym, ◌∙◌, arith}
-use Rattle.app_kinds.specs.Purses.{shown, balance_at, total_of}
-use Rattle.app_kinds.proofs.Transfers.{Balance, nothing, shown-transfer, total-transfer, two-le-total, length-shown, length-charged}
+use Rattle.std.proofs.Common.{◌≡◌, ◌+◌, ◌^◌, ◌<◌, ◌≤◌, length, get_or, ap, sym, ◌∙◌, arith}
+use Rattle.app_kinds.specs.Purses.{shown, balance_at, nonce_at, total_of}
+use Rattle.app_kinds.proofs.Transfers.{Balance, nothing, shown-transfer, total-transfer, two-le-total, fit-moved, length-shown, length-charged}
 use Rattle.app_kinds.proofs.Transfers.{shown-at}
 use Rattle.app_kinds.proofs.accounts.Accounts.transfer.Goals as goal
 
@@ -27,14 +27,22 @@ invariant_of-self c =
     let hs : c.from-from.result < length (shown accounts) = omega (arith, c.ranges.from.fits) in
     let hr : c.from-to.result < length (shown accounts) = omega (arith, c.ranges.to.fits) in
     let covered : c.args.amount ≤ balance_at (shown accounts) c.from-from.result =
-    rw (c.from-from.ensures, c.self.view_is) c.requires.covered in (
+    rw (c.from-from.ensures, c.self.view_is) c.requires.covered in
+    let counted : nonce_at (shown accounts) c.from-from.result + 1 < 2 ^ 32 =
+    rw (c.from-from.ensures, c.self.view_is) c.requires.counted in (
       length-charged accounts c.from-from.result c.from-to.result c.args.amount ∙ c.self.invariant.0,
       ap total_of (shown-transfer accounts c.from-from.result c.from-to.result c.args.amount)
           ∙ total-transfer (shown accounts) c.from-from.result c.from-to.result c.args.amount hs hr
           (λ e. c.requires.apart (sym c.from-from.ensures ∙ e ∙ c.from-to.ensures)) covered
           ∙ c.self.invariant.1,
+      rw (shown-transfer accounts c.from-from.result c.from-to.result c.args.amount)
+          (fit-moved (shown accounts) c.from-from.result c.from-to.result c.args.amount (c.self.invariant.2) c.self.invariant.1 hs hr
+          (λ e. c.requires.apart (sym c.from-from.ensures ∙ e ∙ c.from-to.ensures)) covered counted),
     )
 
-pub returns : goal.returns
-returns c = rw (← c.self.view_is, ← c.from-from.ensures, ← c.from-to.ensures)
+pub returns-clause-fit : goal.returns-clause-fit
+returns-clause-fit c = rw (← c.self.view_is) (c.self.invariant.2)
+
+pub returns-clause-moved : goal.returns-clause-moved
+returns-clause-moved c = rw (← c.self.view_is, ← c.from-from.ensures, ← c.from-to.ensures)
     (shown-transfer c.self.inside.accounts c.from-from.result c.from-to.result c.args.amount)

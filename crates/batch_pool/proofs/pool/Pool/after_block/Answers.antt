@@ -21,7 +21,7 @@ returns g c =
     λ batches led.
     let m : Machine = g.A.Application.machine c.args.app.now in
     let is_new : List ℕ → Bool = λ tx. not (is_among c.args.block.now tx) in
-    let passes : List ℕ → Bool = λ tx. check_reply m.kind batches tx == 0 in
+    let passes : List ℕ → Bool = λ tx. check_reply (g.A.Application.meaning) m.kind batches tx == 0 in
     let first = filter-RetainsPairs _ (λ (e : PoolEntry). is_new e.1) _ (λ k v b w h call. search rules) _ _ c.retain.ensures.filtered in
     let second = filter-RetainsPairs _ (λ (e : PoolEntry). passes e.1) _ (λ k v b w h call. search rules) _ _ c.retain-2.ensures.filtered in
     ap txs_of second ∙ filter-txs passes _ ∙ ap (filter passes) (ap txs_of first ∙ filter-txs is_new _ ∙ ap (filter is_new) c.self.view_is)

@@ -16,10 +16,10 @@ returns-then-code-ne0-clause-answer g c =
     λ batches led.
     let m : Machine = g.A.Application.machine c.args.app.now in
     let code = c.check_tx-code.result in
-    let checked = subst (λ (tx : List ℕ). ChecksTo m tx code) c.in_ok-tx.ensures c.check_tx-code.ensures in
+    let checked = subst (λ (tx : List ℕ). ChecksTo (g.A.Application.meaning) m tx code) c.in_ok-tx.ensures c.check_tx-code.ensures in
     let none = sym c.own_refusal.ensures.first ∙ c.in_default.is in
     subst (λ n. ◌≡◌ {A = Result (Unit {0}) SubmitRefusal} (Err (refusal.Rejected code)) (submit_answer c.args.self.now c.args.bytes.now n))
-    (checked_by_blocks m c.args.bytes.now code checked batches led)
+    (checked_by_blocks (g.A.Application.meaning) m c.args.bytes.now code checked batches led)
     (rejected (own_refusals c.args.self.now c.args.bytes.now) code none c.if-code-ne0.true)
 
 pub returns-in-Ok-clause-answer : goal.returns-in-Ok-clause-answer
@@ -27,10 +27,10 @@ returns-in-Ok-clause-answer g c =
     λ batches led.
     let m : Machine = g.A.Application.machine c.args.app.now in
     let code = c.check_tx-code.result in
-    let checked = subst (λ (tx : List ℕ). ChecksTo m tx code) c.in_ok-tx.ensures c.check_tx-code.ensures in
+    let checked = subst (λ (tx : List ℕ). ChecksTo (g.A.Application.meaning) m tx code) c.in_ok-tx.ensures c.check_tx-code.ensures in
     let none = sym c.own_refusal.ensures.first ∙ c.in_default.is in
     subst (λ n. ◌≡◌ {A = Result (Unit {0}) SubmitRefusal} (Ok tt) (submit_answer c.args.self.now c.args.bytes.now n))
-    (checked_by_blocks m c.args.bytes.now code checked batches led)
+    (checked_by_blocks (g.A.Application.meaning) m c.args.bytes.now code checked batches led)
     (accepted (own_refusals c.args.self.now c.args.bytes.now) code none c.if-code-ne0.false)
 
 pub invariant_of-self : goal.invariant_of-self

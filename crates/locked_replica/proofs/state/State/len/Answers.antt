@@ -6,4 +6,5 @@ use Rattle.locked_replica.proofs.state.State.len.Goals as goal
 pub returns-clause-sound : goal.returns-clause-sound
 returns-clause-sound g c =
     let s = c.self.inside in
-    rw (sym c.self.view_is) (sound s.core.replay s.core.keys (entries_of s.strings s.entries.items) c.self.invariant.0)
+    rw (sym c.self.view_is) (sound (g.A.Application.meaning) s.core.replay s.core.keys
+    (entries_of s.strings s.entries.items) c.self.invariant.0)

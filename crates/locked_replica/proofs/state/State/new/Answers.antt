@@ -20,8 +20,8 @@ invariant_of-result g c =
     let none : entries_of strings c.new-3.result.items ≡ [] = ap (entries_of strings) c.new-3.ensures.items in (
       record {
         few = subst (λ entries. length entries ≤ max_history_len) (sym none) (lit≤ tt);
-        replay = subst (Replay held.config held.ring held.id) (sym none) tt;
-        matches = subst (MatchesHistory held) (sym none) c.in_ok-new.ensures.matches;
+        replay = subst (Replay (g.A.Application.meaning) held.config held.ring held.id) (sym none) tt;
+        matches = subst (MatchesHistory (g.A.Application.meaning) held) (sym none) c.in_ok-new.ensures.matches;
         account = subst (LeafAccount held.config held.id (leaves_of keys.secret) keys.used) (sym none)
             (account_none held.config held.id (leaves_of keys.secret) keys.used);
         once = subst (SignsOnce keys.secret keys.used) (sym none) (once_none keys.secret keys.used);

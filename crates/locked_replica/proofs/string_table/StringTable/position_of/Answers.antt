@@ -1,7 +1,7 @@
 use Rattle.std.proofs.Common.{◌∙◌, ap}
 use Rattle.std.specs.List.{position}
 use Rattle.indexmap.specs.IndexSet.{keys}
-use Rattle.ledger_model.specs.Applications.{same_bytes}
+use Rattle.ledger_model.specs.Values.{same_bytes}
 use Rattle.locked_replica.proofs.Found.{found_at}
 use Rattle.locked_replica.proofs.string_table.StringTable.position_of.Goals as goal
 

@@ -12,7 +12,8 @@ returns g c = λ entries matches.
     let row : InstanceView = c.in_ok-find_place.field-0.now in
     let place = c.in_ok-find_place.ensures in
     let clock : c.self.inside.clock ≡ c.args.self.now.clock = ap (λ (x : ReplayView). x.clock) c.self.view_is in
-    judged_before c.args.self.now s entries matches place.signer row c.judge.result place.row (place.own row place.row)
+    judged_before (g.A.Application.meaning) c.args.self.now s entries matches place.signer row c.judge.result place.row
+    (place.own row place.row)
     (λ ring log m now.
     subst (λ n. c.judge.result ≡ first_of (place_causes row.config n (is_repeated log s) s [])) clock
     (subst (λ t. c.judge.result ≡ first_of (place_causes row.config c.self.inside.clock (is_repeated log t) t []))

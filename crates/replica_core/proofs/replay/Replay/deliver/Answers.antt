@@ -11,5 +11,5 @@ returns-in-Err-Malformed-clause-step g c =
     let exact = subst (λ f. IsReadingOr (Err f) (reading_in c.self.inside.config.frames c.in_ok-clone.field-0)) c.in-Err-Malformed.field-0-is
     (c.in-Err-Malformed.ensures.exact)
     in
-    malformed c.args.self.now c.args.bytes.now
+    malformed (g.A.Application.meaning) c.args.self.now c.args.bytes.now
     (ap (reading_in c.args.self.now.config.frames) (sym c.in_ok-clone.ensures.cases) ∙ (rw (sym c.self.view_is) exact))

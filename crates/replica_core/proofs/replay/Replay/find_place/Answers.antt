@@ -12,7 +12,7 @@ use Rattle.replica_core.proofs.replay.Replay.find_place.Goals as goal
 -- src/delivering.rt:29:13
 pub returns-then-number-self-clause-step : goal.returns-then-number-self-clause-step
 returns-then-number-self-clause-step g c = λ bytes is.
-    stranger c.args.self.now bytes c.args.frame.now is
+    stranger (g.A.Application.meaning) c.args.self.now bytes c.args.frame.now is
     (subst (λ (x : ReplayView). x.config.replicas ≤ signer_of c.args.frame.now.statement) c.self.view_is
     (subst (λ n. c.self.inside.config.replicas ≤ n)
     (c.number.ensures ∙ c.signer.ensures ∙ ap signer_of c.statement-statement.ensures.statement) c.if-number-self.true))
@@ -20,7 +20,7 @@ returns-then-number-self-clause-step g c = λ bytes is.
 -- src/delivering.rt:21:5
 pub returns-in-None-clause-step : goal.returns-in-None-clause-step
 returns-in-None-clause-step g c = λ bytes is.
-    unopened c.args.self.now bytes c.args.frame.now is
+    unopened (g.A.Application.meaning) c.args.self.now bytes c.args.frame.now is
     (subst (λ (x : ReplayView). signer_of c.args.frame.now.statement < x.config.replicas) c.self.view_is
     (subst (λ n. n < c.self.inside.config.replicas)
     (c.number.ensures ∙ c.signer.ensures ∙ ap signer_of c.statement-statement.ensures.statement) c.if-number-self.false))
@@ -33,14 +33,14 @@ returns-in-Some-clause-step g c = search rules
 
 pub returns-then-number-self-clause-cause : goal.returns-then-number-self-clause-cause
 returns-then-number-self-clause-cause g c = λ entries matches.
-    stranger_before c.args.self.now c.args.frame.now.statement entries
+    stranger_before (g.A.Application.meaning) c.args.self.now c.args.frame.now.statement entries
     (subst (λ (x : ReplayView). x.config.replicas ≤ signer_of c.args.frame.now.statement) c.self.view_is
     (subst (λ n. c.self.inside.config.replicas ≤ n)
     (c.number.ensures ∙ c.signer.ensures ∙ ap signer_of c.statement-statement.ensures.statement) c.if-number-self.true))
 
 pub returns-in-None-clause-cause : goal.returns-in-None-clause-cause
 returns-in-None-clause-cause g c = λ entries matches.
-    unopened_before c.args.self.now c.args.frame.now.statement entries matches
+    unopened_before (g.A.Application.meaning) c.args.self.now c.args.frame.now.statement entries matches
     (subst (λ (x : ReplayView). signer_of c.args.frame.now.statement < x.config.replicas) c.self.view_is
     (subst (λ n. n < c.self.inside.config.replicas)
     (c.number.ensures ∙ c.signer.ensures ∙ ap signer_of c.statement-statement.ensures.statement) c.if-number-self.false))

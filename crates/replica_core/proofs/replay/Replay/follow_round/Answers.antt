@@ -16,13 +16,13 @@ use Rattle.replica_core.proofs.replay.Replay.follow_round.Goals as goal
 -- it was mute, and says that it is not
 pub returns-then-not-stays_mute-clause-followed : goal.returns-then-not-stays_mute-clause-followed
 returns-then-not-stays_mute-clause-followed g c =
-    speaks_again c.args.self.now c.args.ended.now (c.stays_mute.ensures.was c.if-not-stays_mute.true)
+    speaks_again (g.A.Application.meaning) c.args.self.now c.args.ended.now (c.stays_mute.ensures.was c.if-not-stays_mute.true)
     (c.stays_mute.ensures.says c.if-not-stays_mute.true)
 
 -- what is shown may not be made
 pub returns-in_default-clause-followed : goal.returns-in_default-clause-followed
 returns-in_default-clause-followed g c =
-    refused c.args.self.now c.args.self.now event.RoundEnd (reply.RoundEnded (Ok c.args.ended.now))
+    refused (g.A.Application.meaning) c.args.self.now c.args.self.now event.RoundEnd (reply.RoundEnded (Ok c.args.ended.now))
     (rw c.in_default.is at c.in_ok-closings.ensures.shown)
 
 pub prepare_round-requires-clause-endings : goal.prepare_round-requires-clause-endings
@@ -39,7 +39,7 @@ returns-clause-followed g c =
     let held : ReplayView = c.args.self.now in
     let shown = rw c.in-Some.is at c.in_ok-closings.ensures.shown in
     let is = c.in_ok-prepared.ensures.prepared in
-    compared_end held c.args.ended.now c.in_ok-endings.ensures.limits c.requires.clock c.finish_round-due.new.self
+    compared_end (g.A.Application.meaning) held c.args.ended.now c.in_ok-endings.ensures.limits c.requires.clock c.finish_round-due.new.self
     (mades c.in-Some.closings.items)
     c.finish_round-due.result c.is_same_frames.result (c.stays_mute.ensures.stays c.if-not-stays_mute.false) shown
     (c.finish_round-due.ensures.reply ∙ ap (λ (p : PreparedView). p.ended) is)

@@ -16,20 +16,21 @@ loop-instance-init g c =
     let same = ap (λ (x : ReplayView). x.rows) c.self.view_is in
     let rows = ap zip_first gives ∙ c.zip-instance-items.ensures.first ∙ c.instances.ensures.rows ∙ same in
     let left = ap (λ z. iter_rest (zip_second z)) gives ∙ c.zip-instance-items.ensures.second.0 in
-    rw (rows, left) (judging_begins held c.args.closings.now (subst AreFound same c.instances.ensures.found) c.requires.count)
+    rw (rows, left) (judging_begins (g.A.Application.meaning) held c.args.closings.now
+    (subst AreFound same c.instances.ensures.found) c.requires.count)
 
 pub loop-instance-preserved : goal.loop-instance-preserved
 loop-instance-preserved g c =
     let held : ReplayView = c.args.self.now in
     let row : InstanceView = c.in-Some.instance.now in
     let steps = c.in-Some.ensures.steps in
-    let here = judged_row held c.args.closings.now row _ c.loop-instance.invariant steps.0 in
+    let here = judged_row (g.A.Application.meaning) held c.args.closings.now row _ c.loop-instance.invariant steps.0 in
     let inside = subst (λ rows. row_at rows row.height ≡ Some row) (sym (ap (λ (x : ReplayView). x.rows) c.self.view_is)) here in
     let config : row.config ≡ held.config = (c.instances.ensures.own row.height row inside).0 ∙ c.self.invariant.1
     ∙ ap (λ (x : ReplayView). x.config) c.self.view_is in
     let id : row.id ≡ held.id = (c.instances.ensures.own row.height row inside).1 ∙ c.self.invariant.2
     ∙ ap (λ (x : ReplayView). x.id) c.self.view_is in
-    judging_next held c.args.closings.now row _ c.in-Some.closing.now _ c.loop-instance.invariant steps.0 steps.1
+    judging_next (g.A.Application.meaning) held c.args.closings.now row _ c.in-Some.closing.now _ c.loop-instance.invariant steps.0 steps.1
     (rw (sym config, sym id) (c.may_make.ensures.own c.if-not-may_make.false))
     (λ entries matches. c.may_make.ensures.may (log_of held.config held.id row.height entries) (matches.opened row.height row here)
     (matches.clocks row.height) c.if-not-may_make.false)
@@ -39,18 +40,19 @@ returns-then-not-may_make-clause-only g c = λ entries matches made.
     let held : ReplayView = c.args.self.now in
     let row : InstanceView = c.in-Some.instance.now in
     let steps = c.in-Some.ensures.steps in
-    let here = judged_row held c.args.closings.now row _ c.loop-instance.invariant steps.0 in
+    let here = judged_row (g.A.Application.meaning) held c.args.closings.now row _ c.loop-instance.invariant steps.0 in
     sym c.if-not-may_make.true
     ∙ c.may_make.ensures.only (log_of held.config held.id row.height entries) (matches.opened row.height row here)
     (matches.clocks row.height)
-    (judged_made held c.args.closings.now row _ c.in-Some.closing.now _ c.loop-instance.invariant steps.0 steps.1 made)
+    (judged_made (g.A.Application.meaning) held c.args.closings.now row _ c.in-Some.closing.now _ c.loop-instance.invariant steps.0 steps.1
+    made)
 
 pub returns-clause-may : goal.returns-clause-may
 returns-clause-may g c = λ entries matches yes.
-    judged_may c.args.self.now c.args.closings.now c.loop-instance.invariant
+    judged_may (g.A.Application.meaning) c.args.self.now c.args.closings.now c.loop-instance.invariant
     (elim c.in-None.ensures.steps [ inl first ↦ inl first.1.0 | inr second ↦ inr second.1.0 ]) entries matches
 
 pub returns-clause-own : goal.returns-clause-own
 returns-clause-own g c = λ yes.
-    judged_own c.args.self.now c.args.closings.now c.loop-instance.invariant
+    judged_own (g.A.Application.meaning) c.args.self.now c.args.closings.now c.loop-instance.invariant
     (elim c.in-None.ensures.steps [ inl first ↦ inl first.1.0 | inr second ↦ inr second.1.0 ])

@@ -10,7 +10,7 @@ use Rattle.replica_core.proofs.replay.Replay.new.Goals as goal
 
 -- src/replay.rt:75:23
 pub new-requires : goal.new-requires
-new-requires g c = reached (g.A.Application.machine c.args.app) (c.args.config.kind) [] (c.requires.opening)
+new-requires g c = reached (g.A.Application.meaning) (g.A.Application.machine c.args.app) (c.args.config.kind) [] (c.requires.opening)
 
 -- src/replay.rt:69:9
 pub invariant_of-result : goal.invariant_of-result
@@ -18,7 +18,8 @@ invariant_of-result g c = rw c.new-5.ensures.items (
   c.requires.member,
   ap (λ (x : HeightRowView). x.config) (c.new-3.ensures.row),
   ap (λ (x : HeightRowView). x.id) (c.new-3.ensures.row),
-  c.in_ok-executor.ensures ∙ ap (λ k. run k []) (kind_is (g.A.Application.machine c.args.app) (c.args.config.kind) [] (c.requires.opening)),
+  c.in_ok-executor.ensures ∙ ap (λ k. run (g.A.Application.meaning) k [])
+      (kind_is (g.A.Application.meaning) (g.A.Application.machine c.args.app) (c.args.config.kind) [] (c.requires.opening)),
   omega arith,
   omega arith,
   (let first : c.new-3.result.floor ≡ 1 = ap (λ (x : HeightRowView). x.floor) c.new-3.ensures.row in omega (arith, first)),
@@ -30,9 +31,9 @@ returns-clause-new g c =
     let rows : c.new-3.result.rows ≡ [] = ap (λ (x : HeightRowView). x.rows) c.new-3.ensures.row in
     let floor : c.new-3.result.floor ≡ 1 = ap (λ (x : HeightRowView). x.floor) c.new-3.ensures.row in
     let commits : c.new-5.result.items ≡ [] = c.new-5.ensures.items in
-    let machine : c.in_ok-executor.executor ≡ run c.args.config.kind [] =
-    c.in_ok-executor.ensures ∙ ap (λ k. run k [])
-    (kind_is (g.A.Application.machine c.args.app) (c.args.config.kind) [] (c.requires.opening)) in
+    let machine : c.in_ok-executor.executor ≡ run (g.A.Application.meaning) c.args.config.kind [] =
+    c.in_ok-executor.ensures ∙ ap (λ k. run (g.A.Application.meaning) k [])
+    (kind_is (g.A.Application.meaning) (g.A.Application.machine c.args.app) (c.args.config.kind) [] (c.requires.opening)) in
     let ring : c.in_ok-verifier.verifier.ring ≡ c.args.ring = ap (λ (v : VerifierView). v.ring) c.in_ok-verifier.ensures in
     λ i. record {
       config = c.args.config;
@@ -48,5 +49,5 @@ returns-clause-new g c =
     }
 
 pub returns-clause-matches : goal.returns-clause-matches
-returns-clause-matches g c = subst (λ (x : ReplayView). MatchesHistory x []) (sym (returns-clause-new g c))
-    (new_matches c.args.config c.args.id c.args.ring)
+returns-clause-matches g c = subst (λ (x : ReplayView). MatchesHistory (g.A.Application.meaning) x []) (sym (returns-clause-new g c))
+    (new_matches (g.A.Application.meaning) c.args.config c.args.id c.args.ring)

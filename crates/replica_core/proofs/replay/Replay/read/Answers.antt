@@ -23,7 +23,7 @@ returns-clause-step g c =
       mute = c.self.inside.mute;
     } in
     rw (sym c.self.view_is, c.read_with.ensures.same.floor, c.read_with.ensures.keys)
-    (judged_there held c.args.frame c.self.inside.rows c.read_with.new.self c.read_with.result refl
+    (judged_there (g.A.Application.meaning) held c.args.frame c.self.inside.rows c.read_with.new.self c.read_with.result refl
     (subst (λ (x : ReplayView). is_some (row_at x.rows (height_of c.args.frame.statement)) ≡ true) (sym c.self.view_is)
     c.requires.there)
     (subst (λ (x : ReplayView). (row : InstanceView) → row_at x.rows (height_of c.args.frame.statement) ≡ Some row → row.config

@@ -16,7 +16,8 @@ use Rattle.replica_core.proofs.replay.Replay.read_end.Goals as goal
 pub returns-in_default-clause-shown : goal.returns-in_default-clause-shown
 returns-in_default-clause-shown g c = λ entries matches keeps.
     c.in_ok-frames.ensures.none c.in_default.is
-    (subst AreSpelled (sym c.as_slice.ensures) (are_spelled c.args.self.now c.args.end.now c.requires.limits c.requires.clock entries keeps))
+    (subst AreSpelled (sym c.as_slice.ensures) (are_spelled (g.A.Application.meaning) c.args.self.now c.args.end.now c.requires.limits
+    c.requires.clock entries keeps))
 
 pub make_shown-requires : goal.make_shown-requires
 make_shown-requires g c =
@@ -46,7 +47,8 @@ returns-then-may_make_all-clause-shown g c =
     let is = c.in_ok-closings.ensures.made
     ∙ ap (λ (rs : List InstanceView). made_each (map (λ row. row.height) rs) c.in-Some.frames.items) rows
     ∙ ap (made_each (map (λ (row : InstanceView). row.height) held.rows)) (sym shown) in
-    shown_each held c.args.end.now c.requires.limits c.requires.clock c.requires.loud c.requires.none_on frames (mades xs) is
+    shown_each (g.A.Application.meaning) held c.args.end.now c.requires.limits c.requires.clock c.requires.loud c.requires.none_on frames
+    (mades xs) is
     (shown_count (held.clock + 1) held.rows xs ends)
     (all_images (IsOwnMade held.config held.id) (λ (x : RoundClosing). x.made) xs
     (subst (AllByRecursion (λ (x : RoundClosing). IsOwnMade held.config held.id x.made)) c.deref.ensures.value
@@ -70,7 +72,8 @@ returns-else-may_make_all-clause-shown g c =
     let is = c.in_ok-closings.ensures.made
     ∙ ap (λ (rs : List InstanceView). made_each (map (λ row. row.height) rs) c.in-Some.frames.items) rows
     ∙ ap (made_each (map (λ (row : InstanceView). row.height) held.rows)) (sym shown) in
-    none_each held c.args.end.now c.requires.limits c.requires.clock c.requires.loud c.requires.none_on frames (mades xs) is
+    none_each (g.A.Application.meaning) held c.args.end.now c.requires.limits c.requires.clock c.requires.loud c.requires.none_on frames
+    (mades xs) is
     (λ entries matches made.
     let may = c.may_make_all.ensures.only entries matches
     (subst (λ (ys : List RoundClosing). AreMade held.ring false (held.clock + 1) held.rows (mades ys)) (sym c.deref.ensures.value)

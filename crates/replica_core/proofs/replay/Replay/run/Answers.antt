@@ -11,7 +11,8 @@ use Rattle.replica_core.proofs.replay.Replay.run.Goals as goal
 pub execute-requires : goal.execute-requires
 execute-requires g c =
     subst (λ n. n < max_height) (sym
-    (height_is (c.self.inside.executor) (c.self.inside.config.kind) (c.self.inside.committed.items) (c.self.invariant.3)))
+    (height_is (g.A.Application.meaning) (c.self.inside.executor) (c.self.inside.config.kind) (c.self.inside.committed.items)
+    (c.self.invariant.3)))
     (subst (λ (x : ReplayView). length x.commits < max_height) (sym c.self.view_is) c.requires.low)
 
 -- src/executing.rt:23:5
@@ -24,9 +25,10 @@ invariant_of-self-2 g c =
       c.self.invariant.0,
       c.self.invariant.1,
       c.self.invariant.2,
-      led (c.self.inside.executor) (c.self.inside.config.kind) (c.self.inside.committed.items) (c.self.invariant.3) c.args.block
+      led (g.A.Application.meaning) (c.self.inside.executor) (c.self.inside.config.kind) (c.self.inside.committed.items)
+          (c.self.invariant.3) c.args.block
           c.in_ok-result.result c.execute.new.self c.in_ok-result.ensures.ok
-          ∙ ap (run c.self.inside.config.kind) (sym items),
+          ∙ ap (run (g.A.Application.meaning) c.self.inside.config.kind) (sym items),
       (let count = ap length items ∙ length-append c.self.inside.committed.items (c.args.block ∷ []) in omega (arith, count, fits)),
       c.self.invariant.5,
       (
@@ -39,7 +41,8 @@ invariant_of-self-2 g c =
 -- src/executing.rt:23:5
 pub returns-clause-answer : goal.returns-clause-answer
 returns-clause-answer g c = rw (sym c.self.view_is)
-    (added (c.self.inside.executor) (c.self.inside.config.kind) (c.self.inside.committed.items) (c.self.invariant.3) c.args.block
+    (added (g.A.Application.meaning) (c.self.inside.executor) (c.self.inside.config.kind) (c.self.inside.committed.items)
+    (c.self.invariant.3) c.args.block
     c.in_ok-result.result c.execute.new.self c.in_ok-result.ensures.ok)
 
 -- src/executing.rt:23:5
@@ -47,8 +50,10 @@ pub returns-clause-after : goal.returns-clause-after
 returns-clause-after g c =
     let items : c.push.new.self.items ≡ c.self.inside.committed.items ++ c.args.block ∷ [] =
     c.in-Ok.ensures.items ∙ ap (λ vs. vs ++ c.args.block ∷ []) c.in_ok-reserve.ensures.items in
-    let ran : c.execute.new.self ≡ run c.self.inside.config.kind (c.self.inside.committed.items ++ c.args.block ∷ []) =
-    led (c.self.inside.executor) (c.self.inside.config.kind) (c.self.inside.committed.items) (c.self.invariant.3) c.args.block
+    let ran : c.execute.new.self ≡ run (g.A.Application.meaning) c.self.inside.config.kind
+    (c.self.inside.committed.items ++ c.args.block ∷ []) =
+    led (g.A.Application.meaning) (c.self.inside.executor) (c.self.inside.config.kind) (c.self.inside.committed.items)
+    (c.self.invariant.3) c.args.block
     c.in_ok-result.result c.execute.new.self c.in_ok-result.ensures.ok in
     rw (sym c.self.view_is, items, ran)
     (ap (λ pool. record {
@@ -59,9 +64,10 @@ returns-clause-after g c =
       rows = c.self.inside.rows.rows;
       pool = pool;
       commits = c.self.inside.committed.items ++ c.args.block ∷ [];
-      machine = run c.self.inside.config.kind (c.self.inside.committed.items ++ c.args.block ∷ []);
+      machine = run (g.A.Application.meaning) c.self.inside.config.kind (c.self.inside.committed.items ++ c.args.block ∷ []);
       clock = c.self.inside.clock;
       mute = c.self.inside.mute;
-    }) (left c.execute.new.self (c.self.inside.config.kind) (c.self.inside.committed.items ++ c.args.block ∷ []) ran
+    }) (left (g.A.Application.meaning) c.execute.new.self (c.self.inside.config.kind)
+    (c.self.inside.committed.items ++ c.args.block ∷ []) ran
     (g.A.Application.machine c.app.result.now) c.args.block c.self.inside.pool c.after_block.new.self c.app.ensures
     c.after_block.ensures))

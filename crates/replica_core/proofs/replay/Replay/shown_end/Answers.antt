@@ -17,7 +17,7 @@ returns-in_ok-make_nothing-clause-shown g c =
     let held : ReplayView = c.args.self.now in
     let xs : List RoundClosing = c.in_ok-make_nothing.field-0.items in
     let ends = c.in_ok-make_nothing.ensures.endings ∙ c.requires.endings in
-    shown_mute held c.args.end.now c.requires.limits c.requires.clock (mades xs) c.if-end.true
+    shown_mute (g.A.Application.meaning) held c.args.end.now c.requires.limits c.requires.clock (mades xs) c.if-end.true
     (all_of_it made.Mute (held.clock + 1) held.rows xs ends c.in_ok-make_nothing.ensures.nothing)
 
 pub returns-in_ok-make_nothing-clause-endings : goal.returns-in_ok-make_nothing-clause-endings
@@ -31,7 +31,7 @@ returns-in_ok-make_nothing-2-clause-shown g c =
     let ends = c.in_ok-make_nothing-2.ensures.endings ∙ c.requires.endings in
     let some = sym (endings_release (held.clock + 1) held.rows c.deref.result.now c.send_locks.result c.send_locks.ensures
     (c.deref.ensures.value ∙ c.requires.endings)) ∙ c.if-send_locks.true in
-    shown_release held c.args.end.now c.requires.limits c.requires.clock c.if-end.false (mades xs) some
+    shown_release (g.A.Application.meaning) held c.args.end.now c.requires.limits c.requires.clock c.if-end.false (mades xs) some
     (all_of_it made.Unsent (held.clock + 1) held.rows xs ends c.in_ok-make_nothing-2.ensures.nothing)
 
 pub returns-in_ok-make_nothing-2-clause-endings : goal.returns-in_ok-make_nothing-2-clause-endings

@@ -13,7 +13,7 @@ returns-clause-same g c = λ entries matches.
     let own = c.instances-instance-items.ensures.own in
     sym (append-nil c.loop-instance.heights.items)
     ∙ ap (λ rows. c.loop-instance.heights.items ++ undecided_in rows) (sym c.in-None.ensures.steps.0) ∙ c.loop-instance.invariant
-    ∙ undecided_there held entries matches
+    ∙ undecided_there (g.A.Application.meaning) held entries matches
     (λ h row at. (own h row (subst (λ rows. row_at rows h ≡ Some row) (sym same) at)).0 ∙ c.self.invariant.1
     ∙ ap (λ (x : ReplayView). x.config) c.self.view_is)
     (subst AreAscending same c.instances-instance-items.ensures.ascend)

@@ -5,4 +5,5 @@ use Rattle.replica_core.proofs.replica.Core.decided_at.Goals as goal
 -- what is held decides what each history decided that it matches
 pub returns-clause-decided : goal.returns-clause-decided
 returns-clause-decided g c = rw (sym c.self.view_is)
-    (λ entries matches. c.decided_at.ensures.row ∙ decided_there c.self.inside.replay entries matches c.decided_at.ensures.one c.args.height)
+    (λ entries matches. c.decided_at.ensures.row ∙ decided_there
+    (g.A.Application.meaning) c.self.inside.replay entries matches c.decided_at.ensures.one c.args.height)

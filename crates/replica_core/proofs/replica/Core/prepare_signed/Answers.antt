@@ -27,13 +27,15 @@ prepare_round-requires-clause-endings g c =
 
 pub prepare_round-requires-clause-own : goal.prepare_round-requires-clause-own
 prepare_round-requires-clause-own g c =
-    signed_own c.args.self.now c.self.inside.replay c.self.inside.signer c.args.plans.items c.in_ok-closings.closings.items c.self.view_is
+    signed_own (g.A.Application.meaning) c.args.self.now c.self.inside.replay c.self.inside.signer c.args.plans.items
+    c.in_ok-closings.closings.items c.self.view_is
     c.requires.limits c.requires.plans c.in_ok-closings.ensures.signs
 
 pub returns-clause-prepared : goal.returns-clause-prepared
 returns-clause-prepared g c =
     let plans = planned_by c.args.self.now c.self.inside.replay c.self.inside.signer c.args.plans.items c.self.view_is c.requires.plans in
-    let ends = signed_step c.args.self.now c.self.inside.replay c.self.inside.signer c.args.plans.items c.in_ok-closings.closings.items
+    let ends = signed_step (g.A.Application.meaning) c.args.self.now c.self.inside.replay c.self.inside.signer c.args.plans.items
+    c.in_ok-closings.closings.items
     c.self.view_is c.requires.limits c.requires.plans
     c.in_ok-closings.ensures.signs c.requires.clock c.requires.loud c.self.invariant c.in_ok-closings.ensures.frames
     c.in_ok-closings.ensures.verified in
@@ -45,7 +47,8 @@ returns-clause-prepared g c =
     subst (λ n. c.make_all.new.signer ≡ record { secret = c.self.inside.signer.secret; used = c.self.inside.signer.used + n })
     (ap due_in plans ∙ due_in-plans (c.self.inside.replay.clock + 1) c.self.inside.replay.rows) c.in_ok-closings.ensures.used in
     rw (sym c.self.view_is)
-    (end_prepared c.self.inside.replay c.self.inside.signer c.make_all.new.signer false c.in_ok-closings.closings.items
+    (end_prepared (g.A.Application.meaning) c.self.inside.replay c.self.inside.signer c.make_all.new.signer false
+    c.in_ok-closings.closings.items
     c.prepare_round.result c.prepare_round.ensures.prepared c.prepare_round.ensures.ready ends.0
     (subst (UsesLeaves c.self.inside.signer c.self.inside.replay.clock
     (end_reply c.self.inside.replay false (made_by_closings c.in_ok-closings.closings.items))) (sym used) ends.1))

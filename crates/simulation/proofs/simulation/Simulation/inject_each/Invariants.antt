@@ -7,7 +7,7 @@ use Rattle.simulation.proofs.simulation.Simulation.inject_each.Given as goal
 -- it was injected to the receivers so far
 abbrev pub invariant-loop-receiver : goal.invariant-loop-receiver
 invariant-loop-receiver g l =
-    ((text : List ℕ) × (StepsEach step_text l.initial.self.cluster
+    ((text : List ℕ) × (StepsEach (g.A.Application.meaning) step_text l.initial.self.cluster
     (injections_to (take l.receiver-index l.receivers) (frame_bytes l.frame)) text l.self.cluster
     × (l.out ≡ l.initial.out ++ text)))
-    × (l.self.lies ≡ l.initial.self.lies) × IsReachedByRun l.initial.self.cluster l.self.cluster
+    × (l.self.lies ≡ l.initial.self.lies) × IsReachedByRun (g.A.Application.meaning) l.initial.self.cluster l.self.cluster

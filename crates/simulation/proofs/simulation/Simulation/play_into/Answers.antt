@@ -8,7 +8,7 @@ returns-in-Some-clause-done g c =
     on_ok (λ done. (
       done.0,
       (
-        plays_step c.args.self.now c.play_step.new.self c.args.command.now c.in-Some.step done.0
+        plays_step (g.A.Application.meaning) c.args.self.now c.play_step.new.self c.args.command.now c.in-Some.step done.0
             (sym c.in_ok-step.ensures ∙ c.in-Some.is) done.1.0,
         done.1.1,
       ),
@@ -20,7 +20,7 @@ returns-in-None-clause-done g c =
     on_ok (λ done. (
       done.0,
       (
-        plays_other c.args.self.now c.play_other.new.self c.args.command.now done.0
+        plays_other (g.A.Application.meaning) c.args.self.now c.play_other.new.self c.args.command.now done.0
             (sym c.in_ok-step.ensures ∙ c.in-None.is) done.1.0,
         done.1.1,
       ),

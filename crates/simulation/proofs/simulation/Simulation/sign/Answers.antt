@@ -5,7 +5,7 @@ use Rattle.simulation.proofs.StepLemmas.{stays, signs_or_not}
 use Rattle.simulation.proofs.simulation.Simulation.sign.Goals as goal
 
 pub returns-in_err-unsigned-clause-goes_on : goal.returns-in_err-unsigned-clause-goes_on
-returns-in_err-unsigned-clause-goes_on g c = stays c.args.self.now.cluster
+returns-in_err-unsigned-clause-goes_on g c = stays (g.A.Application.meaning) c.args.self.now.cluster
 
 pub returns-clause-done : goal.returns-clause-done
 returns-clause-done g c =
@@ -18,11 +18,13 @@ returns-clause-done g c =
 pub returns-clause-goes_on : goal.returns-clause-goes_on
 returns-clause-goes_on g c =
     let signed = c.sign_as-answer in
-    subst (λ s. IsReachedByRun s.cluster signed.new.self) c.self.view_is
-    (signs_or_not (λ s. s.items) c.self.inside.world c.args.liar _ signed.result signed.new.self signed.ensures.signs signed.ensures.same)
+    subst (λ s. IsReachedByRun (g.A.Application.meaning) s.cluster signed.new.self) c.self.view_is
+    (signs_or_not (g.A.Application.meaning) (λ s. s.items) c.self.inside.world c.args.liar _ signed.result signed.new.self
+    signed.ensures.signs signed.ensures.same)
 
 pub invariant_of-self : goal.invariant_of-self
 invariant_of-self g c =
     let signed = c.sign_as-answer in
-    index_later c.self.inside.index c.self.inside.world signed.new.self c.self.inside.lies.items c.self.invariant
-    (signs_or_not (λ s. s.items) c.self.inside.world c.args.liar _ signed.result signed.new.self signed.ensures.signs signed.ensures.same)
+    index_later (g.A.Application.meaning) c.self.inside.index c.self.inside.world signed.new.self c.self.inside.lies.items c.self.invariant
+    (signs_or_not (g.A.Application.meaning) (λ s. s.items) c.self.inside.world c.args.liar _ signed.result signed.new.self
+    signed.ensures.signs signed.ensures.same)

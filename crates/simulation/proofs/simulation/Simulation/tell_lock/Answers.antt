@@ -13,7 +13,8 @@ returns-clause-done g c =
     rw c.in-Some.is at c.in_ok-proof.ensures.count in
     let lock : c.in_ok-lock.lock ≡ lying_lock c.args.lie.now (proof_for c.args.self.now c.args.lie.now c.args.source) =
     c.in_ok-lock.ensures.lock ∙ ap (lying_lock c.args.lie.now) proof in
-    on_ok (λ told. lock_can c.args.lie.now (proof_for c.args.self.now c.args.lie.now c.args.source) c.args.cannot.now c.args.self.now
+    on_ok (λ told. lock_can (g.A.Application.meaning) c.args.lie.now
+    (proof_for c.args.self.now c.args.lie.now c.args.source) c.args.cannot.now c.args.self.now
     c.tell.new.self c.args.out.now
     c.tell.new.out (sym (ap length proof) ∙ count) (rw (lock, c.in_ok-proof.ensures.same) at told))
     c.tell.result c.tell.ensures.done

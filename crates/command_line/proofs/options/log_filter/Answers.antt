@@ -1,0 +1,9 @@
+use Rattle.command_line.specs.Faults.{IsRightOf}
+use Rattle.clap.specs.Words.{found_of, rows_of}
+use Rattle.clap.proofs.TakesLemmas.{passed_up}
+use Rattle.command_line.proofs.options.log_filter.Goals as goal
+
+pub returns-in_err-word-clause-right : goal.returns-in_err-word-clause-right
+returns-in_err-word-clause-right c =
+    λ meaning table has. passed_up _ c.in_err-word.field-0.0 (IsRightOf meaning table (rows_of (found_of c.args.matches.now)))
+    c.from_residual.ensures.1 (c.in_err-word.ensures.right meaning table has)
