@@ -15,8 +15,8 @@ is_asked_in_run resource.Clock = true
 is_asked_in_run resource.Random = true
 is_asked_in_run _ = false
 
--- the cluster was not run to its end: memory ran out, one of these was refused, a thread could not be made, or a replica was not of
--- the cluster
+-- a fault of a run, or of taking its histories: memory ran out, one of these was refused, a thread could not be made, or a replica was not
+-- of the cluster
 abbrev pub IsRunFault : ProgramFault → Type 0
 IsRunFault fault.NoMemory = ⊤
 IsRunFault (fault.Refused refused error) = IsTrue (is_asked_in_run refused)
@@ -65,6 +65,7 @@ abbrev pub IsPortFault : ℕ → ProgramFault → Type 0
 IsPortFault port (fault.NoListener refused error) = refused ≡ port
 IsPortFault port _ = ⊥
 
--- A fault of a run comes before anything is written, into the file too, and all others come once it has ended.
+-- A fault of a run comes before anything is written, into the file too; that it doesn't come after a whole run isn't said. All others come
+-- as the lines or the file are written.
 abbrev pub EndsCluster : Option HistoriesFileView → Option HistoriesFileView → Option (List ℕ) → Option (List ℕ) → ProgramFault → Type 0
 EndsCluster empty full before after f = IsReportFault empty f ⊎ (IsRunFault f × (Keeps before after × (full ≡ empty)))

@@ -8,11 +8,11 @@ use Rattle.cluster_service.specs.declared.protocol.Protocol.{Protocol}
 use Rattle.cluster_service.specs.declared.protocol.Protocol.TheVariants as protocol
 use Rattle.cluster_service.specs.Replicas.{all_begun}
 
--- One worker ran for each replica's number; as they began, each had ended no round, and was to end as many as the settings say. That they
--- are the workers of the cluster beside them isn't said. The clock had the settings' base time, and to each replica their
+-- The workers of this cluster ran, one for each replica's number, each on the cluster's board; as they began, each had ended no round, and
+-- was to end as many as the settings say. The clock had the settings' base time, and to each replica their
 -- transaction had been submitted.
 pub record IsRunOf (meaning : Meanings) (s : ClusterSettings) (run : EndedRunView) : Type 0 where
-  pub workers : AreWorkersOf s.cluster.config.replicas s.cluster.config.frames s.rounds run.workers
+  pub workers : AreWorkersOf run.cluster.board s.cluster.config.replicas s.cluster.config.frames s.rounds run.workers
   pub base_ms : run.base_ms ≡ s.base_ms
   pub begun : run.cluster.begun ≡ all_begun meaning s.cluster s.tx
 

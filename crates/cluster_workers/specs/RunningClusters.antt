@@ -42,10 +42,11 @@ abbrev pub peers_from : ℕ → List InboxId → List PeerInbox
 peers_from first [] = []
 peers_from first (inbox ∷ rest) = record { replica = first; inbox = inbox } ∷ peers_from (first + 1) rest
 
--- a worker: its replica's number, the version of its cluster's frames, the number of rounds that it is to end, the inbox that it takes
--- from, and the inboxes that it puts into; the number of rounds that it has ended, the greatest height that it has proposed, and whether its
--- replica's history is full
+-- a worker: the board on which it publishes and reads heights, its replica's number, the version of its cluster's frames, the number of
+-- rounds that it is to end, the inbox that it takes from, and the inboxes that it puts into; the number of rounds that it has ended, the
+-- greatest height that it has proposed, and whether its replica's history is full
 pub record WorkerView : Type 0 where
+  pub board : BoardId
   pub replica : ℕ
   pub version : Version
   pub rounds : ℕ
@@ -55,9 +56,10 @@ pub record WorkerView : Type 0 where
   pub proposed : ℕ
   pub is_full : Bool
 
--- the worker of a replica as it begins, which takes from the replica's own inbox and puts into all
-abbrev pub worker_of : Version → ℕ → List PeerInbox → PeerInbox → WorkerView
-worker_of version rounds peers own = record {
+-- the worker of a replica as it begins, which publishes on this board, takes from the replica's own inbox and puts into all
+abbrev pub worker_of : BoardId → Version → ℕ → List PeerInbox → PeerInbox → WorkerView
+worker_of board version rounds peers own = record {
+  board = board;
   replica = own.replica;
   version = version;
   rounds = rounds;
@@ -68,12 +70,12 @@ worker_of version rounds peers own = record {
   is_full = false;
 }
 
--- These are the workers of n replicas as they begin, by number. Each takes from its replica's own inbox, and puts into the inboxes of all
--- replicas.
-pub record AreWorkersOf (replicas : ℕ) (version : Version) (rounds : ℕ) (workers : List WorkerView) : Type 0 where
+-- These are the workers of n replicas as they begin, by number. Each publishes its replica's height on this board and reads there which
+-- heights all committed, takes from its replica's own inbox, and puts into the inboxes of all replicas.
+pub record AreWorkersOf (board : BoardId) (replicas : ℕ) (version : Version) (rounds : ℕ) (workers : List WorkerView) : Type 0 where
   pub inboxes : List InboxId
   pub count : length inboxes ≡ replicas
-  pub are : workers ≡ map (worker_of version rounds (peers_from 0 inboxes)) (peers_from 0 inboxes)
+  pub are : workers ≡ map (worker_of board version rounds (peers_from 0 inboxes)) (peers_from 0 inboxes)
 
 -- a cluster whose workers ran in threads of their own, until all had ended: which cluster, its workers as they began, and the base time of
 -- the clock that ended their rounds

@@ -13,8 +13,9 @@
 //!
 //! A worker whose replica's history is full drops the waiting frames, takes no more, and only counts its rounds.
 //!
-//! Proved: the worker's decisions, and each turn (`replica_turns`). Only tested: that the workers run concurrently,
-//! that the cluster commits, and the count of lost frames. Not promised: progress and time.
+//! Proved: each turn, and each decision that a worker asks for (`replica_turns`, `TurnTaker`). Only tested: that a
+//! worker's loop follows those decisions, that the workers run concurrently, that the cluster commits, and the count of
+//! lost frames. Not promised: progress and time.
 #![tactic(auto)]
 
 mod bell;

@@ -139,7 +139,7 @@ fn workers_of<A: Application>(
     requires seats { AreDealt (arc_value board.now) 0 count seats.items }
     requires looking { AreReadersOf (arc_value board.now) count looking.items }
     requires replicas { length replicas.now ≡ count }
-    ensures { IfOk result (λ workers. AreWorkersOf count version rounds workers.items) }
+    ensures { IfOk result (λ workers. AreWorkersOf (arc_value board.now) count version rounds workers.items) }
 {
     let Inboxes { receivers, senders } = inboxes_of(alloc, count, losses)?;
     let mut seats = seats.into_iter();
@@ -188,8 +188,8 @@ impl<A: Application> RunningCluster<A> {
         ensures ring { IfOk result (λ r. r.0.ring ≡ first_ring states.items) }
         // The cluster begins with these states.
         ensures begun { IfOk result (λ r. r.0.begun ≡ states.items) }
-        // The worker of each replica, by number, with its own inbox and those of all replicas.
-        ensures workers { IfOk result (λ r. AreWorkersOf config.now.replicas config.now.frames rounds r.1.items) }
+        // The worker of each replica, by number, with the cluster's board, its own inbox and those of all replicas.
+        ensures workers { IfOk result (λ r. AreWorkersOf r.0.board config.now.replicas config.now.frames rounds r.1.items) }
         ensures reader_count { IfOk result (λ r. vec_len r.2 ≡ readers) }
         ensures readers { IfOk result (λ r. (k : ℕ) → k < readers → slice_get r.2.items k ≡ Some (new_reader r.0.board)) }
     {

@@ -62,6 +62,7 @@ impl<A: Application> Model for Worker<A> {
     ghost Value = { WorkerView };
 
     ghost view = { λ w. record {
+      board = w.turn_taker.seat.board;
       replica = w.turn_taker.seat.replica;
       version = w.version;
       rounds = w.rounds;
@@ -150,6 +151,7 @@ impl<A: Application> Worker<A> {
         rounds: u32,
     ) -> Self
         ensures { result ≡ record {
+          board = turn_taker.seat.board;
           replica = turn_taker.seat.replica;
           version = version;
           rounds = rounds;

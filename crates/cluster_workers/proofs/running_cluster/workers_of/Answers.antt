@@ -3,7 +3,7 @@ use Rattle.std.specs.Arc.{arc_value}
 use Rattle.std.specs.Vec.Iter.{into_iter_items}
 use Rattle.std.proofs.lemmas.Grind.{common_steps}
 use Rattle.std.proofs.lemmas.List.Elements.{All-head, All-tail}
-use Rattle.commit_board.specs.Seats.{WriterSeatView, ReaderSeatView}
+use Rattle.commit_board.specs.Seats.{BoardId, WriterSeatView, ReaderSeatView}
 use Rattle.cluster_workers.specs.RunningClusters.{PeerInbox, WorkerView, peers_from, worker_of}
 use Rattle.cluster_workers.proofs.Peers.{AreLinked, all_linked, linked_more}
 use Rattle.cluster_workers.proofs.SeatsLeft.{some_left, one_taken, first_reading}
@@ -41,6 +41,7 @@ loop-number-init g c = record {
 
 pub loop-number-preserved : goal.loop-number-preserved
 loop-number-preserved g c =
+    let board = arc_value c.args.board.now in
     let rounds = c.args.rounds in
     let version = c.args.version in
     let number = c.loop-number.number in
@@ -54,22 +55,27 @@ loop-number-preserved g c =
     let grown : c.push.new.self.items ≡ c.loop-number.workers.items ++ worker ∷ [] = search rules in
     let own = ap (λ (w : WriterSeatView). w.replica) taken.0 in
     let turn_taker = ap (λ (w : WriterSeatView). w.replica) c.new-turn_taker.ensures in
+    let published = ap (λ (w : WriterSeatView). w.board) c.new-turn_taker.ensures ∙ ap (λ (w : WriterSeatView). w.board) taken.0 in
     let others = rw c.in-Some-next-3.ensures.cases.0 at was.1.1 in
     let all : c.in-Some-next-3.senders.items ≡ peers =
     All-head (λ s. s.items ≡ peers) c.in-Some-next-3.senders (into_iter_items c.next-in-loop-number-3.new.self) others in
-    let linked : AreLinked version rounds number peers c.loop-number.workers.items (inbox ∷ into_iter_items c.next-in-loop-number-2.new.self) =
+    let linked : AreLinked board version rounds number peers c.loop-number.workers.items
+    (inbox ∷ into_iter_items c.next-in-loop-number-2.new.self) =
     rw c.in-Some-next-2.ensures.cases.0 at was.1.2 in
-    let is : worker ≡ worker_of version rounds peers (record { replica = number; inbox = inbox }) =
+    let is : worker ≡ worker_of board version rounds peers (record { replica = number; inbox = inbox }) =
     c.new.ensures
-    ∙ ap (λ (k : ℕ). worker_of version rounds c.in-Some-next-3.senders.items (record { replica = k; inbox = inbox })) (turn_taker ∙ own)
-    ∙ ap (λ (l : List PeerInbox). worker_of version rounds l (record { replica = number; inbox = inbox })) all in
+    ∙ ap (λ (b : BoardId). worker_of b version rounds c.in-Some-next-3.senders.items
+    (record { replica = c.new-turn_taker.result.seat.replica; inbox = inbox })) published
+    ∙ ap (λ (k : ℕ). worker_of board version rounds c.in-Some-next-3.senders.items (record { replica = k; inbox = inbox }))
+    (turn_taker ∙ own)
+    ∙ ap (λ (l : List PeerInbox). worker_of board version rounds l (record { replica = number; inbox = inbox })) all in
     record {
       workers = (
         was.0,
         (
           was.1.0,
           All-tail (λ s. s.items ≡ peers) c.in-Some-next-3.senders (into_iter_items c.next-in-loop-number-3.new.self) others,
-          rw grown (linked_more version rounds number peers c.loop-number.workers.items inbox
+          rw grown (linked_more board version rounds number peers c.loop-number.workers.items inbox
               (into_iter_items c.next-in-loop-number-2.new.self) worker is linked),
         ),
       );
@@ -90,6 +96,7 @@ returns g c =
     record {
       inboxes = was.0;
       count = was.1.0;
-      are = all_linked c.args.version c.args.rounds c.loop-number.number (peers_from 0 was.0) c.loop-number.workers.items left none
+      are = all_linked (arc_value c.args.board.now) c.args.version c.args.rounds c.loop-number.number
+          (peers_from 0 was.0) c.loop-number.workers.items left none
           was.1.2;
     }
