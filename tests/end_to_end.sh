@@ -437,11 +437,11 @@ EOT
 Lines at the end, one for each replica:
   commits R C  replica R committed C blocks
 
-Then the lines of an audit over the histories of all replicas, as 'abft audit --help' says:
+Then the lines of an audit over the histories of all replicas, as 'audit --help' says:
   ledger C     the histories are those of one ledger of C blocks
   H BATCH      its block at height H, one line for each
 
-With --histories FILE the histories are written to FILE, for 'abft audit <FILE' with the options of the cluster.
+With --histories FILE the histories are written to FILE, for 'audit <FILE' with the options of the cluster.
 Standard error shows progress; --log sets how much.
 
 Exit status:
@@ -483,13 +483,13 @@ The first line, and with --http the second:
 At the end, one line for each replica:
   commits R C  replica R committed C blocks
 
-Then the lines of an audit over the histories of all replicas, as 'abft audit --help' says:
+Then the lines of an audit over the histories of all replicas, as 'audit --help' says:
   ledger C     the histories are those of one ledger of C blocks
   H BATCH      its block at height H, one line for each
 
 The server ends when the rounds are over and as many connections as --sessions says have opened and closed,
 or, with --stop-at-eof, when standard input ends.
-With --histories FILE the histories are written to FILE, for 'abft audit <FILE' with the options of the cluster.
+With --histories FILE the histories are written to FILE, for 'audit <FILE' with the options of the cluster.
 Standard error shows progress; --log sets how much.
 docs/OPERATING.md has the rest.
 
@@ -515,8 +515,8 @@ EOT
       --receipt <receipt>  A receipt to look for, R:I:TX: the replica, the index in its history, and the transaction
   -h, --help               Print help
 
-Input: the histories of N-t replicas or more, as bytes, one after another. 'abft simulate --histories' prints such bytes,
-and 'abft cluster --histories FILE' writes them. The options are those of the cluster.
+Input: the histories of N-t replicas or more, as bytes, one after another. 'simulate --histories' prints such bytes,
+and 'cluster --histories FILE' writes them. The options are those of the cluster.
 
 Lines, if the histories are those of one ledger:
   ledger C  the ledger has C blocks
@@ -557,8 +557,8 @@ EOT
       --last <last>      The last round to draw, 0 to 4000000000 [default: 64]
   -h, --help             Print help
 
-Input: the histories of replicas, as bytes, one after another. 'abft simulate --histories' prints such bytes, and
-'abft cluster --histories FILE' writes them. The options are those of the cluster: histories of version 2 need --frames 2.
+Input: the histories of replicas, as bytes, one after another. 'simulate --histories' prints such bytes, and
+'cluster --histories FILE' writes them. The options are those of the cluster: histories of version 2 need --frames 2.
 A history is drawn up to its first entry that is not lawful after those before it, or sends what is not signed.
 
 Output: an SVG document, or 'bad history' if the input is not spelled as histories. docs/PICTURES.md says how to read it.

@@ -8,7 +8,7 @@ use Rattle.ledger_model.specs.Meanings.{accepted_by, LeadToSameBytes, Determines
 use Rattle.ledger_model.specs.Kinds.{purse, purse_bytes, accounts_of, account_of, sender, receiver, amount, balance_of, nonce_of}
 use Rattle.app_kinds.specs.declared.transfer.Transfer.{Transfer}
 use Rattle.app_kinds.specs.Purses.{IsTransferOf, balance_at, total_of, FitFourBytes}
-use Rattle.app_kinds.proofs.Accepted.{accepted-passes, leads-on}
+use Rattle.app_states.proofs.Accepted.{accepted-passes, leads-on}
 use Rattle.app_kinds.proofs.Encodings.{purse_bytes-same}
 use Rattle.app_kinds.proofs.Transfers.{Balance, moved}
 use Rattle.app_kinds.proofs.Solvency.{code-passes}

@@ -9,7 +9,7 @@ use Rattle.std.proofs.lemmas.List.{length-take}
 use Rattle.ledger_model.specs.Values.{same_bytes}
 use Rattle.ledger_model.specs.Meanings.{accepted_by, LeadToSameBytes, Determines}
 use Rattle.ledger_model.specs.Kinds.{counter, counter_bytes, number_in, first_code}
-use Rattle.app_kinds.proofs.Accepted.{accepted-keeps, accepted-passes, leads-on}
+use Rattle.app_states.proofs.Accepted.{accepted-keeps, accepted-passes, leads-on}
 use Rattle.app_kinds.proofs.Encodings.{counter_bytes-same}
 
 -- no test of a transaction of code 0 is true

@@ -1,4 +1,3 @@
-pub mod Accepted
 pub mod Refused
 pub mod Entries
 pub mod Transfers
@@ -13,3 +12,4 @@ pub mod Totals
 pub mod Accounting
 pub mod Judging
 pub mod Determined
+pub mod Choosing

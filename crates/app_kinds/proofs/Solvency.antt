@@ -9,7 +9,7 @@ use Rattle.std.specs.List.{list_all}
 use Rattle.std.proofs.lemmas.Bool.{eqb-false, lt-ltb}
 use Rattle.ledger_model.specs.Meanings.{accepted_by}
 use Rattle.ledger_model.specs.Kinds.{purse, first_code, is_ten_bytes, sender, receiver, amount, sent_by, balance_of, nonce_of}
-use Rattle.app_kinds.proofs.Accepted.{accepted-keeps}
+use Rattle.app_states.proofs.Accepted.{accepted-keeps}
 
 abbrev pub received : List (List ℕ) → ℕ → ℕ
 received done account = sum_by amount (filter (λ tx. receiver tx == account) done)

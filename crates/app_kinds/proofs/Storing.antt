@@ -7,7 +7,7 @@ use Rattle.ledger_model.specs.Values.{same_bytes}
 use Rattle.ledger_model.specs.Meanings.{accepted_by, LeadToSameBytes, Determines}
 use Rattle.ledger_model.specs.Kinds.{store, store_bytes, key_of, value_in, pairs_of}
 use Rattle.app_kinds.specs.Sorted.{Pair}
-use Rattle.app_kinds.proofs.Accepted.{accepted-passes, leads-on}
+use Rattle.app_states.proofs.Accepted.{accepted-passes, leads-on}
 use Rattle.app_kinds.proofs.Encodings.{store_bytes-same}
 use Rattle.app_kinds.proofs.Entries.{byte_cmp}
 use Rattle.app_kinds.proofs.Stored.{stored-push, lookup-stored, pairs-next}

@@ -8,7 +8,7 @@ use Rattle.ledger_model.specs.Meanings.{accepted_by}
 use Rattle.ledger_model.specs.Kinds.{purse, sender, receiver, amount, nonce_of, account_of, accounts_of}
 use Rattle.app_kinds.specs.Balances.{TotalStays}
 use Rattle.app_kinds.specs.Purses.{balance_at, total_of}
-use Rattle.app_kinds.proofs.Accepted.{accepted-keeps}
+use Rattle.app_states.proofs.Accepted.{accepted-keeps}
 use Rattle.app_kinds.proofs.Transfers.{Balance, total-transfer}
 use Rattle.app_kinds.proofs.Solvency.{Solvent, none-solvent, solvent-push, IsCovered, code-passes, nonce-push}
 use Rattle.app_kinds.proofs.Paying.{held-at, held-push, length-held, at-other}

@@ -1,8 +1,8 @@
 pub mod Codes
-pub mod AppStates
 pub mod Wrapped
 pub mod Sorted
 pub mod Purses
 pub mod Balances
 pub mod Chosen
 pub mod Determined
+pub mod Words

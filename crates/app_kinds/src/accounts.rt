@@ -9,9 +9,9 @@ ghost use Rattle.app_kinds.specs.Codes.{code_of};
 ghost use Rattle.app_kinds.specs.Purses.{shown, IsTransferOf, CanMove};
 
 use crate::account::Account;
-use crate::kind_state::KindState;
 use crate::refusal::Refusal;
 use crate::transfer::Transfer;
+use app_states::AppState;
 use sha2::{Digest, Sha256};
 use std::alloc::{AllocError, Global};
 use std::marker::Model;
@@ -79,13 +79,10 @@ impl Accounts {
     }
 }
 
-impl KindState for Accounts {
-    ghost use Rattle.ledger_model.specs.declared.config.AppKind.TheVariants as kind;
-    ghost use Rattle.ledger_model.specs.Kinds.{meaning_of, purse_bytes};
+impl AppState for Accounts {
+    ghost use Rattle.ledger_model.specs.Kinds.{purse, purse_bytes};
 
-    ghost meaning = { meaning_of };
-
-    ghost of_kind = { kind.Purse };
+    ghost meaning = { purse };
 
     ghost state = { purse_bytes };
 

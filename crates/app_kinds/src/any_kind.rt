@@ -3,107 +3,122 @@ use crate::{Counter, KvStore, Purse};
 use abci::{Application, CheckKind, Info, QueryFault};
 use ledger_model::{AppKind, Height, Tx};
 use std::alloc::{AllocError, Global};
+use std::marker::Model;
+
+/// The application that was chosen.
+#[derive(Drop)]
+enum Chosen {
+    KvStore(KvStore),
+    Counter(Counter),
+    Purse(Purse),
+}
 
 /// One of the three applications, for a program whose user chooses the kind. Forwards each call to the chosen one.
 #[derive(Drop)]
-pub enum AnyKind {
-    /// Kind 1.
-    KvStore(KvStore),
-    /// Kind 2.
-    Counter(Counter),
-    /// Kind 3.
-    Purse(Purse),
+pub struct AnyKind {
+    chosen: Chosen,
+}
+
+impl Model for AnyKind {
+    ghost use Rattle.ledger_model.specs.Applications.{Machine};
+    ghost use Rattle.app_kinds.specs.Chosen.{IsOfItsKind, machine_of};
+
+    ghost Value = { Machine };
+
+    ghost view = { λ a. machine_of a.chosen };
+
+    ghost invariant = { λ a. IsOfItsKind a.chosen };
 }
 
 impl AnyKind {
     ghost use Rattle.std.specs.Prelude.{◌≡◌, []};
     ghost use Rattle.ledger_model.specs.Applications.{run};
     ghost use Rattle.ledger_model.specs.Kinds.{meaning_of};
-    ghost use Rattle.app_kinds.specs.Chosen.{machine_of};
 
-    /// The application of this kind before the first block.
+    /// The application of this kind before the first block. That of `AppKind::Own`, which no program of the three has, is a
+    /// store.
+    #[tactic(auto, unfolding(ledger_model::specs::Applications::run))]
     pub fn new(alloc: Global, kind: AppKind) -> Self
-        ensures new { machine_of result ≡ run meaning_of kind [] }
-        // It is an application that an executor can start with.
-        ensures kind { (machine_of result).kind ≡ kind }
+        ensures { result ≡ run meaning_of kind [] }
     {
-        match kind {
-            AppKind::KvStore => AnyKind::KvStore(KvStore::new(alloc)),
-            AppKind::Counter => AnyKind::Counter(Counter::new(alloc)),
-            AppKind::Purse => AnyKind::Purse(Purse::new(alloc)),
-        }
+        let chosen = match kind {
+            AppKind::Own => Chosen::KvStore(KvStore::new(alloc, AppKind::Own)),
+            AppKind::KvStore => Chosen::KvStore(KvStore::new(alloc, AppKind::KvStore)),
+            AppKind::Counter => Chosen::Counter(Counter::new(alloc, AppKind::Counter)),
+            AppKind::Purse => Chosen::Purse(Purse::new(alloc, AppKind::Purse)),
+        };
+        AnyKind { chosen }
     }
 }
 
 impl Application for AnyKind {
     ghost use Rattle.ledger_model.specs.Kinds.{meaning_of};
-    ghost use Rattle.app_kinds.specs.Chosen.{machine_of};
 
     ghost meaning = { meaning_of };
 
-    ghost machine = { machine_of };
+    ghost machine = { λ m. m };
 
     fn info(&self) -> Info {
-        match self {
-            AnyKind::KvStore(app) => app.info(),
-            AnyKind::Counter(app) => app.info(),
-            AnyKind::Purse(app) => app.info(),
+        match &self.chosen {
+            Chosen::KvStore(app) => app.info(),
+            Chosen::Counter(app) => app.info(),
+            Chosen::Purse(app) => app.info(),
         }
     }
 
     fn init_chain(&mut self) -> Result<(), AllocError> {
-        match self {
-            AnyKind::KvStore(app) => app.init_chain(),
-            AnyKind::Counter(app) => app.init_chain(),
-            AnyKind::Purse(app) => app.init_chain(),
+        match &mut self.chosen {
+            Chosen::KvStore(app) => app.init_chain(),
+            Chosen::Counter(app) => app.init_chain(),
+            Chosen::Purse(app) => app.init_chain(),
         }
     }
 
     fn check_tx(&self, tx: &Tx, kind: CheckKind) -> u32 {
-        match self {
-            AnyKind::KvStore(app) => app.check_tx(tx, kind),
-            AnyKind::Counter(app) => app.check_tx(tx, kind),
-            AnyKind::Purse(app) => app.check_tx(tx, kind),
+        match &self.chosen {
+            Chosen::KvStore(app) => app.check_tx(tx, kind),
+            Chosen::Counter(app) => app.check_tx(tx, kind),
+            Chosen::Purse(app) => app.check_tx(tx, kind),
         }
     }
 
     fn begin_block(&mut self, height: Height) -> Result<(), AllocError> {
-        match self {
-            AnyKind::KvStore(app) => app.begin_block(height),
-            AnyKind::Counter(app) => app.begin_block(height),
-            AnyKind::Purse(app) => app.begin_block(height),
+        match &mut self.chosen {
+            Chosen::KvStore(app) => app.begin_block(height),
+            Chosen::Counter(app) => app.begin_block(height),
+            Chosen::Purse(app) => app.begin_block(height),
         }
     }
 
     fn deliver_tx(&mut self, tx: &Tx) -> Result<u32, AllocError> {
-        match self {
-            AnyKind::KvStore(app) => app.deliver_tx(tx),
-            AnyKind::Counter(app) => app.deliver_tx(tx),
-            AnyKind::Purse(app) => app.deliver_tx(tx),
+        match &mut self.chosen {
+            Chosen::KvStore(app) => app.deliver_tx(tx),
+            Chosen::Counter(app) => app.deliver_tx(tx),
+            Chosen::Purse(app) => app.deliver_tx(tx),
         }
     }
 
     fn end_block(&mut self) -> Result<(), AllocError> {
-        match self {
-            AnyKind::KvStore(app) => app.end_block(),
-            AnyKind::Counter(app) => app.end_block(),
-            AnyKind::Purse(app) => app.end_block(),
+        match &mut self.chosen {
+            Chosen::KvStore(app) => app.end_block(),
+            Chosen::Counter(app) => app.end_block(),
+            Chosen::Purse(app) => app.end_block(),
         }
     }
 
     fn commit(&mut self) -> [u8; 32] {
-        match self {
-            AnyKind::KvStore(app) => app.commit(),
-            AnyKind::Counter(app) => app.commit(),
-            AnyKind::Purse(app) => app.commit(),
+        match &mut self.chosen {
+            Chosen::KvStore(app) => app.commit(),
+            Chosen::Counter(app) => app.commit(),
+            Chosen::Purse(app) => app.commit(),
         }
     }
 
     fn query(&self, key: &[u8], height: u32) -> Result<Option<Vec<u8>>, QueryFault> {
-        match self {
-            AnyKind::KvStore(app) => app.query(key, height),
-            AnyKind::Counter(app) => app.query(key, height),
-            AnyKind::Purse(app) => app.query(key, height),
+        match &self.chosen {
+            Chosen::KvStore(app) => app.query(key, height),
+            Chosen::Counter(app) => app.query(key, height),
+            Chosen::Purse(app) => app.query(key, height),
         }
     }
 }

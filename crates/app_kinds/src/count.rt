@@ -6,8 +6,8 @@ ghost use Rattle.ledger_model.specs.declared.config.AppKind.TheVariants as kind;
 ghost use Rattle.app_kinds.specs.Codes.{code_of};
 ghost use Rattle.sha2.specs.Sha256.{sha256};
 
-use crate::kind_state::KindState;
 use crate::refusal::Refusal;
+use app_states::AppState;
 use sha2::{Digest, Sha256};
 use std::alloc::{AllocError, Global};
 
@@ -23,13 +23,10 @@ pub struct Count {
     accepted: u64,
 }
 
-impl KindState for Count {
-    ghost use Rattle.ledger_model.specs.declared.config.AppKind.TheVariants as kind;
-    ghost use Rattle.ledger_model.specs.Kinds.{meaning_of, counter_bytes};
+impl AppState for Count {
+    ghost use Rattle.ledger_model.specs.Kinds.{counter, counter_bytes};
 
-    ghost meaning = { meaning_of };
-
-    ghost of_kind = { kind.Counter };
+    ghost meaning = { counter };
 
     ghost state = { λ c. counter_bytes c.accepted };
 

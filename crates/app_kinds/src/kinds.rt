@@ -2,7 +2,7 @@
 use crate::accounts::Accounts;
 use crate::count::Count;
 use crate::pairs::Pairs;
-use crate::state_machine::StateMachine;
+use app_states::StateMachine;
 
 /// Values by key (kind 1).
 ///

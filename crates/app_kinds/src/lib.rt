@@ -1,11 +1,10 @@
-//! The three applications of the ledger, wrappers for any application, and what a program needs of its application.
+//! The three applications of the ledger, and wrappers for any application.
 //!
 //! Each application is a state machine behind ABCI's calls: every call returns what the definitions of `ledger_model`
 //! say for the whole list of accepted transactions. [`KvStore`] has values by key, [`Counter`] accepts numbers in
 //! order, and [`Purse`] moves amounts between accounts; each is one [`StateMachine`] over a state of its own.
 //! [`AnyKind`] is one of them, chosen at run time. [`Counted`] counts the transactions that are delivered to another
-//! application, and [`Refusing`] lets a chosen delivery fail with allocation failure. A program runs any application that is
-//! [`Opening`]: it can be made in its opening state.
+//! application, and [`Refusing`] lets a chosen delivery fail with allocation failure.
 #![tactic(auto)]
 
 mod account;
@@ -14,19 +13,15 @@ mod any_kind;
 mod assignment;
 mod count;
 mod counted;
-mod kind_state;
 mod kinds;
 pub mod laws;
 mod opening;
 mod pairs;
 mod refusal;
 mod refusing;
-mod state_machine;
 mod transfer;
 
 pub use any_kind::AnyKind;
 pub use counted::Counted;
 pub use kinds::{Counter, KvStore, Purse};
-pub use opening::{Opening, new_apps};
 pub use refusing::Refusing;
-pub use state_machine::StateMachine;

@@ -7,7 +7,7 @@ ghost use Rattle.ledger_model.specs.Limits.{max_tx_len};
 ghost use Rattle.app_kinds.specs.Sorted.{pair_bytes, FitTransactions};
 
 use crate::assignment::key_and_value;
-use crate::kind_state::KindState;
+use app_states::AppState;
 use sha2::{Digest, Sha256};
 use std::alloc::{AllocError, Global};
 use std::collections::BTreeMap;
@@ -64,13 +64,10 @@ impl Pairs {
     }
 }
 
-impl KindState for Pairs {
-    ghost use Rattle.ledger_model.specs.declared.config.AppKind.TheVariants as kind;
-    ghost use Rattle.ledger_model.specs.Kinds.{meaning_of, store_bytes};
+impl AppState for Pairs {
+    ghost use Rattle.ledger_model.specs.Kinds.{store, store_bytes};
 
-    ghost meaning = { meaning_of };
-
-    ghost of_kind = { kind.KvStore };
+    ghost meaning = { store };
 
     ghost state = { store_bytes };
 

@@ -2,7 +2,7 @@
 
 use abci::{Application, CheckKind};
 use app_kinds::{Counted, Counter, KvStore, Purse};
-use ledger_model::{Height, Tx};
+use ledger_model::{AppKind, Height, Tx};
 use std::alloc::{AllocError, Global};
 use std::boxed::Box;
 use std::test::Fail;
@@ -50,11 +50,11 @@ fn is_played(alloc: Global, mut app: AnyApp, bytes: &[u8], (key, held): (&[u8], 
 #[test]
 fn each_kind_plays_a_block_in_a_box(rt: HostRuntime) -> Result<(), Fail> {
     let alloc = rt.alloc();
-    let store: AnyApp = Box::new(alloc, KvStore::new(alloc))?;
+    let store: AnyApp = Box::new(alloc, KvStore::new(alloc, AppKind::KvStore))?;
     assert!(rt; is_played(alloc, store, b"a=1", (b"a", b"1")));
-    let counter: AnyApp = Box::new(alloc, Counter::new(alloc))?;
+    let counter: AnyApp = Box::new(alloc, Counter::new(alloc, AppKind::Counter))?;
     assert!(rt; is_played(alloc, counter, &[0], (b"count", &[0, 0, 0, 0, 0, 0, 0, 1])));
-    let purse: AnyApp = Box::new(alloc, Counted::new(Purse::new(alloc)))?;
+    let purse: AnyApp = Box::new(alloc, Counted::new(Purse::new(alloc, AppKind::Purse)))?;
     let payment = [0, 1, 0, 0, 0, 5, 0, 0, 0, 0];
     assert!(rt; is_played(alloc, purse, &payment, (&[0], &[0, 0, 3, 227, 0, 0, 0, 1])));
     Ok(())

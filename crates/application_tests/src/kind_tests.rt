@@ -4,7 +4,7 @@ use super::tests::{COUNT_OF_ZERO, has_result};
 use abci::{Application, CheckKind, Info, QueryFault};
 use abci_executor::{Executor, run_block};
 use app_kinds::{Counter, KvStore, Purse};
-use ledger_model::Height;
+use ledger_model::{AppKind, Height};
 use std::alloc::Global;
 use std::test::Fail;
 use test_support::{batch, tx};
@@ -91,7 +91,7 @@ fn sets_three_pairs(alloc: Global, store: &mut KvStore) -> bool {
 // The bytes before the first equals sign are the key, or all of them if there is none.
 #[test]
 fn store_sets_what_stands_after_the_first_sign(rt: HostRuntime) {
-    let mut store = KvStore::new(rt.alloc());
+    let mut store = KvStore::new(rt.alloc(), AppKind::KvStore);
     assert!(rt; sets_three_pairs(rt.alloc(), &mut store));
 }
 
@@ -126,7 +126,7 @@ fn is_at_two(counter: &Counter) -> bool {
 #[test]
 fn counter_counts_in_turn(rt: HostRuntime) {
     let alloc = rt.alloc();
-    let mut counter = Counter::new(alloc);
+    let mut counter = Counter::new(alloc, AppKind::Counter);
     assert!(rt;
         counts_nothing(alloc, &mut counter)
             && counts_zero(alloc, &mut counter)
@@ -145,7 +145,7 @@ fn counts_two_blocks(alloc: Global, counter: &mut Counter) -> bool {
 
 #[test]
 fn counter_counts_two_blocks(rt: HostRuntime) {
-    let mut counter = Counter::new(rt.alloc());
+    let mut counter = Counter::new(rt.alloc(), AppKind::Counter);
     assert!(rt; counts_two_blocks(rt.alloc(), &mut counter));
 }
 
@@ -165,9 +165,10 @@ const PAYMENTS: [&[u8]; 5] = [
     b"\x00\x01",
 ];
 
+#[tactic(auto, unfolding(ledger_model::specs::Applications::run))]
 #[test]
 fn purse_moves_an_amount_once(rt: HostRuntime) -> Result<(), Fail> {
-    let mut executor = Executor::new(Purse::new(rt.alloc()))?;
+    let mut executor = Executor::new(Purse::new(rt.alloc(), AppKind::Purse))?;
     let wanted = (1, [0, 2, 3, 4, 1].as_slice(), FIVE_PAID);
     assert!(rt;
         has_result(rt.alloc(), &mut executor, &PAYMENTS, wanted) && has_five_paid(executor.app())
@@ -200,9 +201,10 @@ fn is_asked_at(executor: &Executor<Counter>, last: u32, other: u32) -> bool {
         && has_count_at(executor, last)
 }
 
+#[tactic(auto, unfolding(ledger_model::specs::Applications::run))]
 #[test]
 fn blocks_follow_one_another(rt: HostRuntime) -> Result<(), Fail> {
-    let mut executor = Executor::new(Counter::new(rt.alloc()))?;
+    let mut executor = Executor::new(Counter::new(rt.alloc(), AppKind::Counter))?;
     assert_eq!(rt; first_wrong_block(rt.alloc(), &mut executor), None);
     assert!(rt; is_asked_at(&executor, 3, 2));
     Ok(())

@@ -4,7 +4,7 @@ use super::tests::{is_run, submits};
 use abci_executor::Executor;
 use app_kinds::{Counter, KvStore};
 use batch_pool::{Pool, SubmitFault};
-use ledger_model::{Batch, SubmitRefusal, Version};
+use ledger_model::{AppKind, Batch, SubmitRefusal, Version};
 use std::alloc::Global;
 use std::hash::RandomState;
 use std::test::Fail;
@@ -77,7 +77,7 @@ fn first_wrong_length(pool: &mut Pool, app: &KvStore) -> Option<usize> {
 #[test]
 fn lengths_from_1_to_64_are_taken_in(rt: HostRuntime) -> Result<(), Fail> {
     let mut pool = Pool::new(rt.alloc(), RandomState::new(&rt)?);
-    let app = KvStore::new(rt.alloc());
+    let app = KvStore::new(rt.alloc(), AppKind::KvStore);
     assert_eq!(rt; first_wrong_length(&mut pool, &app), None);
     Ok(())
 }
@@ -126,10 +126,11 @@ fn is_filled(pool: &mut Pool, app: &Counter) -> bool {
 }
 
 // The first 16, with frames of version 2 the first 64, are proposed and stay, until a block removes its transactions.
+#[tactic(auto, unfolding(ledger_model::specs::Applications::run))]
 #[test]
 fn a_full_pool_refuses_and_goes_on_behind_a_block(rt: HostRuntime) -> Result<(), Fail> {
     let random = RandomState::new(&rt)?;
-    let mut executor = Executor::new(Counter::new(rt.alloc()))?;
+    let mut executor = Executor::new(Counter::new(rt.alloc(), AppKind::Counter))?;
     let mut pool = Pool::new(rt.alloc(), random);
     assert!(rt; is_filled(&mut pool, executor.app()));
     assert!(rt; proposes(&pool, Version::One, 0, 16) && proposes(&pool, Version::Two, 0, 64));

@@ -4,7 +4,7 @@ use abci::{Application, Info};
 use abci_executor::Executor;
 use app_kinds::{Counted, Counter, KvStore, Refusing};
 use batch_pool::{Pool, SubmitFault};
-use ledger_model::{Batch, BlockResult, Height, QueryAnswer, SubmitRefusal, Version};
+use ledger_model::{AppKind, Batch, BlockResult, Height, QueryAnswer, SubmitRefusal, Version};
 use std::alloc::Global;
 use std::hash::RandomState;
 use std::test::Fail;
@@ -150,8 +150,12 @@ fn counts_to_three<A: Application>(
 }
 
 // Whether a block that found no memory once is followed by this block.
+#[tactic(auto, unfolding(ledger_model::specs::Applications::run))]
 fn is_followed_by(alloc: Global, block: &[&[u8]]) -> Result<bool, Fail> {
-    let mut executor = Executor::new(Counted::new(Refusing::new(Counter::new(alloc), 2)))?;
+    let mut executor = Executor::new(Counted::new(Refusing::new(
+        Counter::new(alloc, AppKind::Counter),
+        2,
+    )))?;
     Ok(finds_no_memory(alloc, &mut executor) && counts_to_three(alloc, &mut executor, block))
 }
 
@@ -180,10 +184,11 @@ fn drops_the_other(alloc: Global, executor: &mut Executor<Counter>, pool: &mut P
     is_run(alloc, executor, pool, &block, &[0]) && pool.is_empty()
 }
 
+#[tactic(auto, unfolding(ledger_model::specs::Applications::run))]
 #[test]
 fn a_recheck_drops_what_came_too_late(rt: HostRuntime) -> Result<(), Fail> {
     let random = RandomState::new(&rt)?;
-    let mut executor = Executor::new(Counter::new(rt.alloc()))?;
+    let mut executor = Executor::new(Counter::new(rt.alloc(), AppKind::Counter))?;
     let mut pool = Pool::new(rt.alloc(), random);
     assert!(rt;
         takes_two(&mut pool, executor.app())
@@ -221,10 +226,11 @@ fn comes_into_the_next_block<A: Application>(
 }
 
 // The first block is empty, but has a height and a hash.
+#[tactic(auto, unfolding(ledger_model::specs::Applications::run))]
 #[test]
 fn what_waits_is_proposed_run_and_taken_out(rt: HostRuntime) -> Result<(), Fail> {
     let random = RandomState::new(&rt)?;
-    let mut executor = Executor::new(KvStore::new(rt.alloc()))?;
+    let mut executor = Executor::new(KvStore::new(rt.alloc(), AppKind::KvStore))?;
     let mut pool = Pool::new(rt.alloc(), random);
     assert!(rt; comes_into_the_next_block(rt.alloc(), &mut executor, &mut pool));
     Ok(())

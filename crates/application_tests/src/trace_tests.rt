@@ -6,6 +6,7 @@ use abci::{Application, QueryFault};
 use abci_executor::Executor;
 use app_kinds::Counter;
 use batch_pool::Pool;
+use ledger_model::AppKind;
 use std::alloc::Global;
 use std::hash::RandomState;
 use std::test::Fail;
@@ -54,10 +55,11 @@ fn hands_on_faults<A: Application>(executor: &Executor<A>) -> bool {
 }
 
 // The executor forwards that the application found no memory for its answer, and still reports a height that isn't held.
+#[tactic(auto, unfolding(ledger_model::specs::Applications::run))]
 #[test]
 fn calls_come_in_order_and_faults_are_handed_on(rt: HostRuntime) -> Result<(), Fail> {
     let random = RandomState::new(&rt)?;
-    let mut executor = Executor::new(Traced::new(Counter::new(rt.alloc())))?;
+    let mut executor = Executor::new(Traced::new(Counter::new(rt.alloc(), AppKind::Counter)))?;
     let mut pool = Pool::new(rt.alloc(), random);
     assert!(rt;
         offers_and_runs(rt.alloc(), &mut executor, &mut pool)

@@ -6,7 +6,7 @@
 //! board. Each connection is served in a thread of its own, so a client that disappears or sends no request harms no other session. The
 //! clients share a count of the entries of each replica's history that they may use.
 //!
-//! The caller chooses the type of the replicas' application (`Opening` of crate `app_kinds`), which answers as the configuration's kind does.
+//! The caller chooses the type of the replicas' application (`Opening` of crate `app_states`), which answers as the configuration's kind does.
 //!
 //! What is handed to threads is what the settings say: [`EndedCluster`] and [`EndedServer`] keep which cluster, workers, clock and services threads were
 //! given, and their contracts compare that with the settings.

@@ -5,7 +5,7 @@ ghost use Rattle.byte_streams.specs.Faults.{IsMemoryOrRandom};
 ghost use Rattle.cluster_service.specs.Replicas.{all_begun, begun, submitted};
 
 use abci::Application;
-use app_kinds::Opening;
+use app_states::Opening;
 use byte_streams::{ProgramFault, new_random_key};
 use bytes::Bytes;
 use cluster_setup::{ClusterKeys, ClusterSeed, all_keys_in_parallel};

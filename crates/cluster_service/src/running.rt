@@ -8,7 +8,7 @@ ghost use Rattle.cluster_service.specs.Services.{IsRunOf};
 use crate::final_histories::{FinalHistories, take_all};
 use crate::replicas::{NewReplicas, new_replicas};
 use abci::Application;
-use app_kinds::Opening;
+use app_states::Opening;
 use byte_streams::{ProgramFault, Resource};
 use cluster_reports::{Notice, ReportingGate, SharedStatus};
 use cluster_setup::ClusterSettings;

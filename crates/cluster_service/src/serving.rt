@@ -17,7 +17,7 @@ use crate::replicas::{NewReplicas, new_replicas};
 use crate::running::{PreparedRun, end_of, new_gate};
 use crate::servers::{EndedServices, Server, ServerEnd, Servers, http_server};
 use abci::Application;
-use app_kinds::Opening;
+use app_states::Opening;
 use byte_streams::ProgramFault;
 use cluster_reports::{Notice, ReportingGate, SharedStatus};
 use cluster_setup::ServeSettings;

@@ -15,7 +15,7 @@ use crate::serving::{EndedServer, serve_cluster};
 use crate::stop_at_end;
 use crate::writing::write_lines;
 use abci::Application;
-use app_kinds::Opening;
+use app_states::Opening;
 use byte_streams::ProgramFault;
 use cluster_reports::SharedStatus;
 use cluster_setup::{ClusterSettings, ServeSettings};

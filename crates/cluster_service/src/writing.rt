@@ -9,7 +9,7 @@ ghost use Rattle.cluster_service.specs.RunFaults.{IsLineFault, IsWriteFault};
 use crate::final_histories::FinalHistories;
 use crate::lines::{commit_lines, port_lines};
 use crate::ports::Listeners;
-use app_kinds::Opening;
+use app_states::Opening;
 use byte_streams::{ProgramFault, flush_output, write_output};
 use history_audit::{AuditFault, audited};
 use ledger_model::{Config, Ledger};

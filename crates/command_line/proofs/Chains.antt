@@ -1,7 +1,7 @@
 -- Commands that are built step by step.
-use Rattle.std.proofs.Common.{◌≡◌, ◌∙◌, ◌∷◌, ◌++◌, ◌+◌, ◌<◌, ℕ, [], List, ap, false, get_or, length, map, sym, take}
-use Rattle.std.proofs.lemmas.List.{map-append, map_more}
-use Rattle.std.proofs.lemmas.List.Elements.{All-head, All-tail}
+use Rattle.std.proofs.Common.{◌≡◌, ◌∙◌, ◌∷◌, ◌++◌, ◌+◌, ◌<◌, ℕ, Bool, [], List, ap, cond, false, filter, get_or, length, map, sym, take, true}
+use Rattle.std.proofs.lemmas.List.{append-nil, map-append, map_more}
+use Rattle.std.proofs.lemmas.List.Elements.{All-head, All-tail, filter_more}
 use Rattle.std.specs.Prelude.{◌||◌}
 use Rattle.std.specs.List.{All}
 use Rattle.clap.specs.Built.{AddsArg, AddsInTurn, AddsSubcommand}
@@ -37,3 +37,19 @@ pub one_more_made : {X Y Z : Type 0} (f : X → Z) (g : Y → Z) (xs : List X) (
     → map f xs ≡ map g (take i ys) → f x ≡ g (get_or ys i d) → map f (xs ++ x ∷ []) ≡ map g (take (i + 1) ys)
 one_more_made f g xs ys i x d within made same =
     map-append f xs (x ∷ []) ∙ ap (λ zs. zs ++ f x ∷ []) made ∙ ap (λ z. map g (take i ys) ++ z ∷ []) same ∙ sym (map_more g ys i d within)
+
+-- the list follows those of another one that pass a test, and the next one passes it, too
+pub one_more_had : {X Y Z : Type 0} (f : X → Z) (g : Y → Z) (p : Y → Bool) (xs : List X) (ys : List Y) (i : ℕ) (x : X) (d : Y) → i < length ys
+    → p (get_or ys i d) ≡ true → map f xs ≡ map g (filter p (take i ys)) → f x ≡ g (get_or ys i d)
+    → map f (xs ++ x ∷ []) ≡ map g (filter p (take (i + 1) ys))
+one_more_had f g p xs ys i x d within had made same =
+    map-append f xs (x ∷ []) ∙ ap (λ zs. zs ++ f x ∷ []) made ∙ ap (λ z. map g (filter p (take i ys)) ++ z ∷ []) same
+    ∙ sym (map-append g (filter p (take i ys)) (get_or ys i d ∷ []))
+    ∙ sym (ap (map g) (filter_more p ys i d within ∙ ap (λ b. filter p (take i ys) ++ cond b (get_or ys i d ∷ []) []) had))
+
+-- the list follows those of another one that pass a test, and the next one doesn't
+pub one_left_out : {X Y Z : Type 0} (f : X → Z) (g : Y → Z) (p : Y → Bool) (xs : List X) (ys : List Y) (i : ℕ) (d : Y) → i < length ys
+    → p (get_or ys i d) ≡ false → map f xs ≡ map g (filter p (take i ys)) → map f xs ≡ map g (filter p (take (i + 1) ys))
+one_left_out f g p xs ys i d within out made =
+    made ∙ sym (ap (map g) (filter_more p ys i d within ∙ ap (λ b. filter p (take i ys) ++ cond b (get_or ys i d ∷ []) []) out
+    ∙ append-nil (filter p (take i ys))))

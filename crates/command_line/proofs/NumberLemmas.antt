@@ -1,4 +1,6 @@
 -- Numbers and transactions in their printed form.
+use Rattle.ledger_model.specs.declared.config.AppKinds.{AppKinds}
+use Rattle.ledger_model.specs.declared.config.AppKinds.TheVariants.{Three, OwnAlone}
 use Rattle.ledger_model.specs.Meanings.{Meanings}
 use Rattle.std.proofs.Common.{◌≡◌, ◌∙◌, ℕ, ◌-◌, ◌<◌, ◌≤◌, Bool, true, false, cond, List, [], refl, arith, ap, codes, sym, subst}
 use Rattle.std.specs.Prelude.{Result, Ok, Err, Some, None, IfOk, IfErr, OnErr, IsErrOf, is_ok, ◌↔◌, ◌==◌}
@@ -12,7 +14,7 @@ use Rattle.ledger_model.specs.declared.batch.TxFault.TheVariants as fault
 use Rattle.ledger_model.specs.Applications.{Machine, run, transactions_of}
 use Rattle.ledger_model.specs.Replies.{check_reply}
 use Rattle.ledger_model.specs.declared.config.AppKind.{AppKind}
-use Rattle.ledger_model.specs.declared.config.AppKind.TheVariants.{KvStore, Counter, Purse}
+use Rattle.ledger_model.specs.declared.config.AppKind.TheVariants.{Own, KvStore, Counter, Purse}
 use Rattle.lm_ots.specs.Parameters.{bits_of, levels_of}
 use Rattle.lm_ots.specs.declared.params.Width.{Width}
 use Rattle.lm_ots.specs.declared.params.Width.TheVariants.{W4, W8}
@@ -96,8 +98,10 @@ one_transaction rows name tx tx2 i j =
     stands_once j.text tx tx2 (subst (λ t. StandsFor t tx) same i.bytes) j.bytes
 
 -- the same options name one application
-pub same_kind : (rows : List Row) (a b : ClusterSeed) → SetsCluster rows a → SetsCluster rows b → a.config.kind ≡ b.config.kind
-same_kind rows a b i j = one_kind a.config.kind b.config.kind (one_number rows (codes "kind") 1 3 1 3 _ _ i.kind j.kind)
+pub same_kind : (kinds : AppKinds) (rows : List Row) (a b : ClusterSeed) → SetsCluster kinds rows a → SetsCluster kinds rows b
+    → a.config.kind ≡ b.config.kind
+same_kind Three rows a b i j = one_kind a.config.kind b.config.kind (one_number rows (codes "kind") 1 3 1 3 _ _ i.kind j.kind)
+same_kind OwnAlone rows a b i j = i.kind ∙ sym j.kind
 
 -- a check in the opening state answers as the application run on no block
 pub checked_at_opening : (meaning : Meanings) (m : Machine) (kind : AppKind) (tx : List ℕ) (code : ℕ) → ChecksTo meaning m tx code
@@ -112,7 +116,7 @@ checked_at_opening meaning m kind tx code checked is =
 -- each number from 1 to 3 names an application
 pub some_kind : (n : ℕ) → 1 ≤ n → n ≤ 3 → None ≡ kind_of_number n → ⊥
 unfolding kind_of_number
-some_kind n least most none = by_first (n == 1) refl none
+some_kind n least most none = by_none (n == 0) refl none
   where
     by_third : (t : Bool) → (n == 1) ≡ false → (n == 2) ≡ false → (n == 3) ≡ t → None ≡ cond t (Some Purse) None → ⊥
     by_third true first second third none = cc
@@ -130,3 +134,8 @@ some_kind n least most none = by_first (n == 1) refl none
         → None ≡ cond t (Some KvStore) (cond (n == 2) (Some Counter) (cond (n == 3) (Some Purse) None)) → ⊥
     by_first true first none = cc
     by_first false first none = by_second (n == 2) first refl none
+
+    by_none : (t : Bool) → (n == 0) ≡ t
+        → None ≡ cond t (Some Own) (cond (n == 1) (Some KvStore) (cond (n == 2) (Some Counter) (cond (n == 3) (Some Purse) None))) → ⊥
+    by_none true zero none = cc
+    by_none false zero none = by_first (n == 1) refl none

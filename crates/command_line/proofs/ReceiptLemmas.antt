@@ -1,4 +1,5 @@
 -- Receipts, and the numbers before their colons.
+use Rattle.ledger_model.specs.declared.config.AppKinds.{AppKinds}
 use Rattle.ledger_model.specs.Meanings.{Meanings}
 use Rattle.std.proofs.Common.{◌≡◌, ◌≢◌, ◌∙◌, ℕ, ◌<◌, ◌^◌, List, ◌∷◌, ◌++◌, length, get_or, true, false, ap, codes, sym, subst, inl, inr}
 use Rattle.std.proofs.Common.{arith, Bor}
@@ -43,11 +44,11 @@ set_spelled rows text (Some receipt) has (t, (first, spells)) =
     (receipt, subst (λ w. SpellsReceipt w receipt) (same_Some t text (sym first ∙ has)) spells)
 
 -- what is said of a value that spells no receipt is right
-pub receipt_right : (meaning : Meanings) (table : OptionTable) (rows : List Row) (word : Bor (List ℕ)) (e : UsageFault)
-    → HasOption table (codes "receipt")
+pub receipt_right : (kinds : AppKinds) (meaning : Meanings) (table : OptionTable) (rows : List Row) (word : Bor (List ℕ)) (e : UsageFault)
+    → HasOption kinds table (codes "receipt")
     → first_of (codes "receipt") rows ≡ Some word.now
     → ((r : Receipt) → SpellsReceipt word.now r → WantsMemory e) → (e ≡ fault.NoMemory) ⊎ (e ≡ fault.Receipt word)
-    → IsRightOf meaning table rows e
-receipt_right meaning table rows word e has first none (inl memory) = subst (IsRightOf meaning table rows) (sym memory) tt
-receipt_right meaning table rows word e has first none (inr told) =
-    subst (IsRightOf meaning table rows) (sym told) (has, (first, λ r spells. subst WantsMemory told (none r spells)))
+    → IsRightOf kinds meaning table rows e
+receipt_right kinds meaning table rows word e has first none (inl memory) = subst (IsRightOf kinds meaning table rows) (sym memory) tt
+receipt_right kinds meaning table rows word e has first none (inr told) =
+    subst (IsRightOf kinds meaning table rows) (sym told) (has, (first, λ r spells. subst WantsMemory told (none r spells)))

@@ -1,19 +1,20 @@
 -- The faults of words that give no settings: each names what is wrong with the words.
+use Rattle.app_states.specs.ProgramWords.{ProgramWords}
 use Rattle.ledger_model.specs.Meanings.{Meanings}
 use Rattle.std.specs.Prelude.{◌≡◌, ◌≢◌, ◌⊎◌, ℕ, ◌<◌, ◌+◌, ◌*◌, ⊤, List, [], ◌∷◌, length, codes, slice_get, slice_index, Option, Some, None}
 use Rattle.clap.specs.Words.{HasKind, IsAmong, Kinds, Row, Text, fault_of, first_of, subcommand_of}
 use Rattle.clap.specs.declared.error.ErrorKind.TheVariants as kind
 use Rattle.ledger_model.specs.declared.config.AppKind.{AppKind}
+use Rattle.ledger_model.specs.declared.config.AppKinds.{AppKinds}
 use Rattle.ledger_model.specs.Replies.{check_reply}
 use Rattle.log.specs.Level.{parse_filter}
 use Rattle.plain_text.specs.Transactions.{Misspells, StandsFor}
 use Rattle.plain_text.specs.declared.spelling_fault.SpellingFault.{SpellingFault}
 use Rattle.cluster_setup.specs.declared.sign_settings.What.{What}
 use Rattle.cluster_setup.specs.declared.audit_settings.Receipt.{Receipt}
-use Rattle.ledger_model.specs.Numbers.{kind_number}
 use Rattle.command_line.specs.Grammar.{abft_app}
 use Rattle.command_line.specs.Receipts.{SpellsReceipt}
-use Rattle.command_line.specs.Options.{HasOption, IsNumberWithin, IsSeed, IsWritten, OptionTable, TakesEither, TakesNumber, TakesTransaction}
+use Rattle.command_line.specs.Options.{HasOption, IsNumberWithin, IsSeed, IsWritten, OptionTable, SetsKind, TakesEither, TakesNumber, TakesTransaction}
 use Rattle.command_line.specs.Options.{options_of, word_of}
 use Rattle.command_line.specs.declared.usage_fault.Input.{Input}
 use Rattle.command_line.specs.declared.usage_fault.Input.TheVariants.{Frames, Scenario, AuditedHistories, DrawnHistories}
@@ -24,16 +25,16 @@ use Rattle.command_line.specs.declared.usage_fault.UsageFault.TheVariants as fau
 
 -- The kinds of error that clap may return for these words: those of the first thing that it refuses or shows. There is
 -- none if the words are a command line of the program.
-unfoldable pub kinds_of : List Text → Kinds
-kinds_of words = fault_of abft_app words
+unfoldable pub kinds_of : ProgramWords → List Text → Kinds
+kinds_of program words = fault_of (abft_app program) words
 
 -- The words ask for the help or the version. For `abft help WORD` there are two kinds, because WORD may be no subcommand.
-abbrev pub AskForHelp : List Text → Type 0
-AskForHelp words = IsAmong kind.DisplayHelp (kinds_of words) ⊎ IsAmong kind.DisplayVersion (kinds_of words)
+abbrev pub AskForHelp : ProgramWords → List Text → Type 0
+AskForHelp program words = IsAmong kind.DisplayHelp (kinds_of program words) ⊎ IsAmong kind.DisplayVersion (kinds_of program words)
 
 -- the words ask for the help or the version, and for nothing else
-abbrev pub AskForHelpAlone : List Text → Type 0
-AskForHelpAlone words = (kinds_of words ≡ kind.DisplayHelp ∷ []) ⊎ (kinds_of words ≡ kind.DisplayVersion ∷ [])
+abbrev pub AskForHelpAlone : ProgramWords → List Text → Type 0
+AskForHelpAlone program words = (kinds_of program words ≡ kind.DisplayHelp ∷ []) ⊎ (kinds_of program words ≡ kind.DisplayVersion ∷ [])
 
 -- the word follows this subcommand, and is no option
 pub record IsOperand (words : List Text) (subcommand word : Text) : Type 0 where
@@ -48,10 +49,10 @@ reader_of Scenario = codes "simulate"
 reader_of AuditedHistories = codes "audit"
 reader_of DrawnHistories = codes "draw"
 
--- the fault names the word after a subcommand that reads its input from standard input
-abbrev pub NamesInput : List Text → UsageFault → Type 0
-NamesInput words (fault.NamedInput input word) = IsOperand words (reader_of input) word.now
-NamesInput words other = ⊥
+-- the fault names the program, and the word after a subcommand that reads its input from standard input
+abbrev pub NamesInput : Text → List Text → UsageFault → Type 0
+NamesInput program words (fault.NamedInput name input word) = (name.now ≡ program) × IsOperand words (reader_of input) word.now
+NamesInput program words other = ⊥
 
 -- ---- options with a wrong value
 
@@ -87,14 +88,14 @@ pub record IsNoTransaction (rows : List Row) (option word : Text) : Type 0 where
   pub stands : StandsFor word bytes
   pub wrong_length : (length bytes ≡ 0) ⊎ (64 < length bytes)
 
--- The word is the option's value, a transaction for which an application of the cluster's kind returns this code in its
--- opening state.
-pub record IsRejected (meaning : Meanings) (rows : List Row) (option : Text) (code : ℕ) (word : Text) : Type 0 where
+-- the word is the option's value, a transaction for which CheckTx of an application of the cluster's kind returns this code in its
+-- opening state
+pub record IsRejected (kinds : AppKinds) (meaning : Meanings) (rows : List Row) (option : Text) (code : ℕ) (word : Text) : Type 0 where
   pub has : first_of option rows ≡ Some word
   pub tx : List ℕ
   pub written : IsWritten rows option tx
   pub kind : AppKind
-  pub chosen : IsNumberWithin rows (codes "kind") 1 3 (kind_number kind)
+  pub chosen : SetsKind kinds rows kind
   pub answer : check_reply meaning kind [] tx ≡ code
   pub refused : code ≢ 0
 
@@ -111,26 +112,26 @@ abbrev pub IsNoLevel : List Row → Text → Type 0
 IsNoLevel rows word = (first_of (codes "log") rows ≡ Some word) × (parse_filter word ≡ None)
 
 -- the fault names an option of the table and of these rows, the numbers that it takes, and what is wrong with it
-abbrev pub IsRightOf : Meanings → OptionTable → List Row → UsageFault → Type 0
-IsRightOf meaning table rows (fault.CommandLine error) = ⊥
-IsRightOf meaning table rows (fault.Number option least most word) =
-    TakesNumber table rows option.now least most × IsNoNumber rows option.now least most word.now
-IsRightOf meaning table rows (fault.Neither option one other word) =
-    TakesEither table option.now one other × IsNeither rows option.now one other word.now
-IsRightOf meaning table rows (fault.Seed word) = HasOption table (codes "seed") × IsNoSeed rows word.now
-IsRightOf meaning table rows (fault.TooFew replicas faults) = AreTooFew rows replicas faults
-IsRightOf meaning table rows (fault.Spelling option why) = TakesTransaction table option.now × IsMisspelled rows option.now why
-IsRightOf meaning table rows (fault.NoTransaction option word) = TakesTransaction table option.now
+abbrev pub IsRightOf : AppKinds → Meanings → OptionTable → List Row → UsageFault → Type 0
+IsRightOf kinds meaning table rows (fault.CommandLine error) = ⊥
+IsRightOf kinds meaning table rows (fault.Number option least most word) =
+    TakesNumber kinds table rows option.now least most × IsNoNumber rows option.now least most word.now
+IsRightOf kinds meaning table rows (fault.Neither option one other word) =
+    TakesEither kinds table option.now one other × IsNeither rows option.now one other word.now
+IsRightOf kinds meaning table rows (fault.Seed word) = HasOption kinds table (codes "seed") × IsNoSeed rows word.now
+IsRightOf kinds meaning table rows (fault.TooFew replicas faults) = AreTooFew rows replicas faults
+IsRightOf kinds meaning table rows (fault.Spelling option why) = TakesTransaction kinds table option.now × IsMisspelled rows option.now why
+IsRightOf kinds meaning table rows (fault.NoTransaction option word) = TakesTransaction kinds table option.now
     × IsNoTransaction rows option.now word.now
-IsRightOf meaning table rows (fault.Rejected option code word) = TakesTransaction table option.now
-    × IsRejected meaning rows option.now code word.now
-IsRightOf meaning table rows (fault.Receipt word) = HasOption table (codes "receipt") × IsNoReceipt rows word.now
-IsRightOf meaning table rows (fault.NamedInput input word) = ⊥
-IsRightOf meaning table rows (fault.What word) = HasOption table (codes "what") × IsNoStatement rows word.now
-IsRightOf meaning table rows (fault.Level word) = HasOption table (codes "log") × IsNoLevel rows word.now
-IsRightOf meaning table rows (fault.Missing option) = HasOption table option.now × (first_of option.now rows ≡ None)
-IsRightOf meaning table rows fault.NoSubcommand = ⊥
-IsRightOf meaning table rows fault.NoMemory = ⊤
+IsRightOf kinds meaning table rows (fault.Rejected option code word) = TakesTransaction kinds table option.now
+    × IsRejected kinds meaning rows option.now code word.now
+IsRightOf kinds meaning table rows (fault.Receipt word) = HasOption kinds table (codes "receipt") × IsNoReceipt rows word.now
+IsRightOf kinds meaning table rows (fault.NamedInput name input word) = ⊥
+IsRightOf kinds meaning table rows (fault.What word) = HasOption kinds table (codes "what") × IsNoStatement rows word.now
+IsRightOf kinds meaning table rows (fault.Level word) = HasOption kinds table (codes "log") × IsNoLevel rows word.now
+IsRightOf kinds meaning table rows (fault.Missing option) = HasOption kinds table option.now × (first_of option.now rows ≡ None)
+IsRightOf kinds meaning table rows fault.NoSubcommand = ⊥
+IsRightOf kinds meaning table rows fault.NoMemory = ⊤
 
 -- no subcommand of the program was found
 abbrev pub IsNoSubcommand : Option (Text × List Row) → Type 0
@@ -151,30 +152,30 @@ rows_in None = []
 rows_in (Some found) = found.1
 
 -- the fault names an option of the subcommand that was found, or says that none was found
-abbrev pub IsRightIn : Meanings → Option (Text × List Row) → UsageFault → Type 0
-IsRightIn meaning found fault.NoSubcommand = IsNoSubcommand found
-IsRightIn meaning found e = IsRightOf meaning (table_in found) (rows_in found) e
+abbrev pub IsRightIn : AppKinds → Meanings → Option (Text × List Row) → UsageFault → Type 0
+IsRightIn kinds meaning found fault.NoSubcommand = IsNoSubcommand found
+IsRightIn kinds meaning found e = IsRightOf kinds meaning (table_in found) (rows_in found) e
 
 -- the words are a command line of the program, and the fault is about an option of its subcommand
-abbrev pub IsRightOption : Meanings → List Text → UsageFault → Type 0
-IsRightOption meaning words e = (kinds_of words ≡ []) × IsRightIn meaning (subcommand_of abft_app words) e
+abbrev pub IsRightOption : ProgramWords → Meanings → List Text → UsageFault → Type 0
+IsRightOption program meaning words e = (kinds_of program words ≡ []) × IsRightIn program.kinds meaning (subcommand_of (abft_app program) words) e
 
 -- the fault is true of the words: clap returns an error of this kind for them, or they are a command line and an option
 -- has this fault
-abbrev pub IsRightFault : Meanings → List Text → UsageFault → Type 0
-IsRightFault meaning words (fault.CommandLine error) = HasKind (kinds_of words) error
-IsRightFault meaning words (fault.NamedInput input word) = IsAmong kind.UnknownArgument (kinds_of words)
-    × IsOperand words (reader_of input) word.now
-IsRightFault meaning words (fault.Number option least most word) = IsRightOption meaning words (fault.Number option least most word)
-IsRightFault meaning words (fault.Neither option one other word) = IsRightOption meaning words (fault.Neither option one other word)
-IsRightFault meaning words (fault.Seed word) = IsRightOption meaning words (fault.Seed word)
-IsRightFault meaning words (fault.TooFew replicas faults) = IsRightOption meaning words (fault.TooFew replicas faults)
-IsRightFault meaning words (fault.Spelling option why) = IsRightOption meaning words (fault.Spelling option why)
-IsRightFault meaning words (fault.NoTransaction option word) = IsRightOption meaning words (fault.NoTransaction option word)
-IsRightFault meaning words (fault.Rejected option code word) = IsRightOption meaning words (fault.Rejected option code word)
-IsRightFault meaning words (fault.Receipt word) = IsRightOption meaning words (fault.Receipt word)
-IsRightFault meaning words (fault.What word) = IsRightOption meaning words (fault.What word)
-IsRightFault meaning words (fault.Level word) = IsRightOption meaning words (fault.Level word)
-IsRightFault meaning words (fault.Missing option) = IsRightOption meaning words (fault.Missing option)
-IsRightFault meaning words fault.NoSubcommand = IsRightOption meaning words fault.NoSubcommand
-IsRightFault meaning words fault.NoMemory = ⊤
+abbrev pub IsRightFault : ProgramWords → Meanings → List Text → UsageFault → Type 0
+IsRightFault program meaning words (fault.CommandLine error) = HasKind (kinds_of program words) error
+IsRightFault program meaning words (fault.NamedInput name input word) = IsAmong kind.UnknownArgument (kinds_of program words)
+    × NamesInput program.name words (fault.NamedInput name input word)
+IsRightFault program meaning words (fault.Number option least most word) = IsRightOption program meaning words (fault.Number option least most word)
+IsRightFault program meaning words (fault.Neither option one other word) = IsRightOption program meaning words (fault.Neither option one other word)
+IsRightFault program meaning words (fault.Seed word) = IsRightOption program meaning words (fault.Seed word)
+IsRightFault program meaning words (fault.TooFew replicas faults) = IsRightOption program meaning words (fault.TooFew replicas faults)
+IsRightFault program meaning words (fault.Spelling option why) = IsRightOption program meaning words (fault.Spelling option why)
+IsRightFault program meaning words (fault.NoTransaction option word) = IsRightOption program meaning words (fault.NoTransaction option word)
+IsRightFault program meaning words (fault.Rejected option code word) = IsRightOption program meaning words (fault.Rejected option code word)
+IsRightFault program meaning words (fault.Receipt word) = IsRightOption program meaning words (fault.Receipt word)
+IsRightFault program meaning words (fault.What word) = IsRightOption program meaning words (fault.What word)
+IsRightFault program meaning words (fault.Level word) = IsRightOption program meaning words (fault.Level word)
+IsRightFault program meaning words (fault.Missing option) = IsRightOption program meaning words (fault.Missing option)
+IsRightFault program meaning words fault.NoSubcommand = IsRightOption program meaning words fault.NoSubcommand
+IsRightFault program meaning words fault.NoMemory = ⊤

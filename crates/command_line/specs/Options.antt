@@ -1,7 +1,9 @@
 -- The settings that the words of a command line give: each option has its value in the matches, which is its default if
 -- the words give none.
+use Rattle.ledger_model.specs.declared.config.AppKinds.{AppKinds}
+use Rattle.app_states.specs.ProgramWords.{ProgramWords}
 use Rattle.ledger_model.specs.Meanings.{Meanings}
-use Rattle.std.specs.Prelude.{◌≡◌, ℕ, ◌==◌, Bool, true, ◌&&◌, ◌≤◌, ◌+◌, ◌-◌, ◌*◌, IsTrue, List, [], ◌∷◌, ◌++◌, length, codes, Option, Some}
+use Rattle.std.specs.Prelude.{◌≡◌, ℕ, ◌==◌, Bool, true, false, not, ◌&&◌, ◌||◌, ◌≤◌, ◌+◌, ◌-◌, ◌*◌, IsTrue, List, [], ◌∷◌, ◌++◌, length, codes, Option, Some}
 use Rattle.std.specs.Prelude.{None, Ok, ◌⊎◌, ◌↔◌, find, option_and_then, option_map, if◌then◌else◌}
 use Rattle.std.specs.List.{list_any}
 use Rattle.std.specs.Str.{bytes_eq}
@@ -12,6 +14,8 @@ use Rattle.clap.specs.Words.{Row, Text, first_of, kind_of, subcommand_of, takes}
 use Rattle.clap.specs.declared.error.ErrorKind.TheVariants as kind
 use Rattle.clap.specs.declared.parser.matches.ValueSource.TheVariants.{CommandLine}
 use Rattle.ledger_model.specs.declared.config.AppKind.{AppKind}
+use Rattle.ledger_model.specs.declared.config.AppKind.TheVariants.{Own}
+use Rattle.ledger_model.specs.declared.config.AppKinds.TheVariants.{Three, OwnAlone}
 use Rattle.ledger_model.specs.Replies.{check_reply}
 use Rattle.ledger_model.specs.Numbers.{kind_number, version_number}
 use Rattle.lm_ots.specs.Parameters.{bits_of, levels_of}
@@ -132,13 +136,18 @@ options_of name =
 abbrev pub is_one_of : Text → List Text → Bool
 is_one_of text texts = list_any (λ t. bytes_eq t text) texts
 
--- the option is one of the table, and has a value
-abbrev pub HasOption : OptionTable → Text → Type 0
-HasOption table option = IsTrue (is_one_of option table.names)
+-- the program has the three applications
+abbrev pub is_three : AppKinds → Bool
+is_three Three = true
+is_three OwnAlone = false
+
+-- the option is one of the table that the program has, and takes a value; only a program of the three has `--kind`
+abbrev pub HasOption : AppKinds → OptionTable → Text → Type 0
+HasOption kinds table option = IsTrue (is_one_of option table.names && (not (bytes_eq option (codes "kind")) || is_three kinds))
 
 -- the option is one of the table, and takes a transaction
-abbrev pub TakesTransaction : OptionTable → Text → Type 0
-TakesTransaction table option = HasOption table option × IsTrue (is_one_of option table.transactions)
+abbrev pub TakesTransaction : AppKinds → OptionTable → Text → Type 0
+TakesTransaction kinds table option = HasOption kinds table option × IsTrue (is_one_of option table.transactions)
 
 -- these are the option's limits
 abbrev pub is_limit : Text → ℕ → ℕ → Limits → Bool
@@ -162,39 +171,39 @@ pub record IsReplicaLimit (rows : List Row) (option : Text) (least most : ℕ) :
   pub last : most ≡ replicas - 1
 
 -- the option is one of the table, and takes the numbers from `least` to `most`
-abbrev pub TakesNumber : OptionTable → List Row → Text → ℕ → ℕ → Type 0
-TakesNumber table rows option least most =
-    HasOption table option × (IsTrue (list_any (is_limit option least most) table.numbers) ⊎ IsReplicaLimit rows option least most)
+abbrev pub TakesNumber : AppKinds → OptionTable → List Row → Text → ℕ → ℕ → Type 0
+TakesNumber kinds table rows option least most =
+    HasOption kinds table option × (IsTrue (list_any (is_limit option least most) table.numbers) ⊎ IsReplicaLimit rows option least most)
 
 -- the option is one of the table, and takes one of these two numbers: that of the bits, or that of the tree's levels
-abbrev pub TakesEither : OptionTable → Text → ℕ → ℕ → Type 0
-TakesEither table option one other =
-    HasOption table option
+abbrev pub TakesEither : AppKinds → OptionTable → Text → ℕ → ℕ → Type 0
+TakesEither kinds table option one other =
+    HasOption kinds table option
     × (((option ≡ codes "w") × (one ≡ 4) × (other ≡ 8)) ⊎ ((option ≡ codes "tree") × (one ≡ 5) × (other ≡ 10)))
 
 -- the table has the options of a cluster
-pub record HasCluster (table : OptionTable) : Type 0 where
-  pub n : HasOption table (codes "n")
+pub record HasCluster (kinds : AppKinds) (table : OptionTable) : Type 0 where
+  pub n : HasOption kinds table (codes "n")
   pub n_limits : IsTrue (list_any (is_limit (codes "n") 4 13) table.numbers)
-  pub t : HasOption table (codes "t")
+  pub t : HasOption kinds table (codes "t")
   pub t_limits : IsTrue (list_any (is_limit (codes "t") 1 4) table.numbers)
-  pub kind : HasOption table (codes "kind")
+  pub kind : kinds ≡ Three → HasOption kinds table (codes "kind")
   pub kind_limits : IsTrue (list_any (is_limit (codes "kind") 1 3) table.numbers)
-  pub w : HasOption table (codes "w")
-  pub tree : HasOption table (codes "tree")
-  pub frames : HasOption table (codes "frames")
+  pub w : HasOption kinds table (codes "w")
+  pub tree : HasOption kinds table (codes "tree")
+  pub frames : HasOption kinds table (codes "frames")
   pub frames_limits : IsTrue (list_any (is_limit (codes "frames") 1 2) table.numbers)
-  pub seed : HasOption table (codes "seed")
+  pub seed : HasOption kinds table (codes "seed")
 
 -- the table has the options of a running cluster
-pub record HasRunning (table : OptionTable) : Type 0 where
-  pub cluster : HasCluster table
-  pub tx : TakesTransaction table (codes "tx")
-  pub rounds : HasOption table (codes "rounds")
+pub record HasRunning (kinds : AppKinds) (table : OptionTable) : Type 0 where
+  pub cluster : HasCluster kinds table
+  pub tx : TakesTransaction kinds table (codes "tx")
+  pub rounds : HasOption kinds table (codes "rounds")
   pub rounds_limits : IsTrue (list_any (is_limit (codes "rounds") 0 4000000000) table.numbers)
-  pub base : HasOption table (codes "base-ms")
+  pub base : HasOption kinds table (codes "base-ms")
   pub base_limits : IsTrue (list_any (is_limit (codes "base-ms") 1 60000) table.numbers)
-  pub log : HasOption table (codes "log")
+  pub log : HasOption kinds table (codes "log")
 
 -- the option's value is the 64 hexadecimal digits of these bytes
 pub record IsSeed (rows : List Row) (seed : List ℕ) : Type 0 where
@@ -210,7 +219,7 @@ pub record IsWritten (rows : List Row) (name : Text) (tx : List ℕ) : Type 0 wh
   pub some : 1 ≤ length tx
   pub short : length tx ≤ 64
 
--- the option's value encodes this transaction, which an application of this kind accepts in its opening state
+-- the option's value encodes this transaction, for which CheckTx of an application of this kind returns 0 in its opening state
 pub record IsAccepted (meaning : Meanings) (rows : List Row) (name : Text) (kind : AppKind) (tx : List ℕ) : Type 0 where
   pub written : IsWritten rows name tx
   pub checked : check_reply meaning kind [] tx ≡ 0
@@ -238,11 +247,16 @@ pub record SetsLog (rows : List Row) (level : LevelFilter) : Type 0 where
   pub quiet : IsNamed rows (codes "quiet") → level ≡ Off
   pub loud : (IsNamed rows (codes "quiet") → ⊥) → level ≡ named
 
+-- the cluster's kind: the option's, in a program of the three, or that of the program's own application
+abbrev pub SetsKind : AppKinds → List Row → AppKind → Type 0
+SetsKind Three rows kind = IsNumberWithin rows (codes "kind") 1 3 (kind_number kind)
+SetsKind OwnAlone rows kind = kind ≡ Own
+
 -- the options of a cluster
-pub record SetsCluster (rows : List Row) (cluster : ClusterSeed) : Type 0 where
+pub record SetsCluster (kinds : AppKinds) (rows : List Row) (cluster : ClusterSeed) : Type 0 where
   pub n : IsNumberWithin rows (codes "n") 0 255 cluster.config.replicas
   pub t : IsNumberWithin rows (codes "t") 0 255 cluster.config.faults
-  pub kind : IsNumberWithin rows (codes "kind") 1 3 (kind_number cluster.config.kind)
+  pub kind : SetsKind kinds rows cluster.config.kind
   pub enough : 3 * cluster.config.faults + 1 ≤ cluster.config.replicas
   pub bounded : cluster.config.replicas ≤ 13
   pub tolerant : 1 ≤ cluster.config.faults
@@ -257,8 +271,8 @@ word_of Report = codes "report"
 word_of Ack = codes "ack"
 
 -- the options of `abft sign` set these settings
-pub record SetsSign (rows : List Row) (s : SignSettings) : Type 0 where
-  pub cluster : SetsCluster rows s.cluster
+pub record SetsSign (kinds : AppKinds) (rows : List Row) (s : SignSettings) : Type 0 where
+  pub cluster : SetsCluster kinds rows s.cluster
   pub what : first_of (codes "what") rows ≡ Some (word_of s.what)
   pub replica : IsNumberWithin rows (codes "replica") 0 (s.cluster.config.replicas - 1) s.replica
   pub height : IsNumberWithin rows (codes "height") 1 4096 s.height
@@ -266,8 +280,8 @@ pub record SetsSign (rows : List Row) (s : SignSettings) : Type 0 where
   pub value : IsWritten rows (codes "value") s.value
 
 -- the options of `abft deliver` set these settings
-pub record SetsDeliver (meaning : Meanings) (rows : List Row) (s : DeliverSettings) : Type 0 where
-  pub cluster : SetsCluster rows s.cluster
+pub record SetsDeliver (kinds : AppKinds) (meaning : Meanings) (rows : List Row) (s : DeliverSettings) : Type 0 where
+  pub cluster : SetsCluster kinds rows s.cluster
   pub replica : IsNumberWithin rows (codes "replica") 0 (s.cluster.config.replicas - 1) s.replica
   pub value : IsAccepted meaning rows (codes "value") s.cluster.config.kind s.value
   pub height : IsNumberWithin rows (codes "height") 1 4 s.height
@@ -280,8 +294,8 @@ pub record SetsSimulate (rows : List Row) (s : SimulateSettings) : Type 0 where
 
 -- The options of `abft cluster` set these settings. The run ends with standard input, if the words contain that option. The histories
 -- are written to the file that the words name, if they name one.
-pub record SetsRunning (meaning : Meanings) (rows : List Row) (s : ClusterSettings) : Type 0 where
-  pub cluster : SetsCluster rows s.cluster
+pub record SetsRunning (kinds : AppKinds) (meaning : Meanings) (rows : List Row) (s : ClusterSettings) : Type 0 where
+  pub cluster : SetsCluster kinds rows s.cluster
   pub tx : IsAccepted meaning rows (codes "tx") s.cluster.config.kind s.tx
   pub rounds : IsNumberWithin rows (codes "rounds") 0 4000000000 s.rounds
   pub base : IsNumberWithin rows (codes "base-ms") 1 60000 s.base_ms
@@ -290,43 +304,43 @@ pub record SetsRunning (meaning : Meanings) (rows : List Row) (s : ClusterSettin
   pub histories : option_map string_bytes s.histories ≡ first_of (codes "histories") rows
 
 -- the options of `abft serve` set these settings
-pub record SetsServe (meaning : Meanings) (rows : List Row) (s : ServeSettings) : Type 0 where
-  pub cluster : SetsRunning meaning rows s.cluster
+pub record SetsServe (kinds : AppKinds) (meaning : Meanings) (rows : List Row) (s : ServeSettings) : Type 0 where
+  pub cluster : SetsRunning kinds meaning rows s.cluster
   pub port : IsNumberWithin rows (codes "port") 0 65535 s.port
   pub http : SetsPort rows (codes "http") s.http
   pub sessions : IsNumberWithin rows (codes "sessions") 1 1000 s.sessions
   pub entries : IsNumberWithin rows (codes "client-entries") 0 65536 s.client_entries
 
 -- the options of `abft audit` set these settings
-pub record SetsAudit (rows : List Row) (s : AuditSettings) : Type 0 where
-  pub cluster : SetsCluster rows s.cluster
+pub record SetsAudit (kinds : AppKinds) (rows : List Row) (s : AuditSettings) : Type 0 where
+  pub cluster : SetsCluster kinds rows s.cluster
   pub receipt : SetsReceipt rows s.receipt
 
 -- the options of `abft draw` set these settings
-pub record SetsDraw (rows : List Row) (s : DrawSettings) : Type 0 where
-  pub cluster : SetsCluster rows s.cluster
+pub record SetsDraw (kinds : AppKinds) (rows : List Row) (s : DrawSettings) : Type 0 where
+  pub cluster : SetsCluster kinds rows s.cluster
   pub height : IsNumberWithin rows (codes "height") 0 4096 s.height
   pub first : IsNumberWithin rows (codes "first") 0 4000000000 s.first
   pub last : IsNumberWithin rows (codes "last") 0 4000000000 s.last
 
 -- the subcommand that the words name sets these settings with its options
-abbrev pub Sets : Meanings → Option (Text × List Row) → Settings → Type 0
-Sets meaning None s = ⊥
-Sets meaning (Some found) (settings.Sign s) = (found.0 ≡ codes "sign") × SetsSign found.1 s
-Sets meaning (Some found) (settings.Deliver s) = (found.0 ≡ codes "deliver") × SetsDeliver meaning found.1 s
-Sets meaning (Some found) (settings.Simulate s) = (found.0 ≡ codes "simulate") × SetsSimulate found.1 s
-Sets meaning (Some found) (settings.Cluster s) = (found.0 ≡ codes "cluster") × SetsRunning meaning found.1 s
-Sets meaning (Some found) (settings.Serve s) = (found.0 ≡ codes "serve") × SetsServe meaning found.1 s
-Sets meaning (Some found) (settings.Audit s) = (found.0 ≡ codes "audit") × SetsAudit found.1 s
-Sets meaning (Some found) (settings.Draw s) = (found.0 ≡ codes "draw") × SetsDraw found.1 s
+abbrev pub Sets : AppKinds → Meanings → Option (Text × List Row) → Settings → Type 0
+Sets kinds meaning None s = ⊥
+Sets kinds meaning (Some found) (settings.Sign s) = (found.0 ≡ codes "sign") × SetsSign kinds found.1 s
+Sets kinds meaning (Some found) (settings.Deliver s) = (found.0 ≡ codes "deliver") × SetsDeliver kinds meaning found.1 s
+Sets kinds meaning (Some found) (settings.Simulate s) = (found.0 ≡ codes "simulate") × SetsSimulate found.1 s
+Sets kinds meaning (Some found) (settings.Cluster s) = (found.0 ≡ codes "cluster") × SetsRunning kinds meaning found.1 s
+Sets kinds meaning (Some found) (settings.Serve s) = (found.0 ≡ codes "serve") × SetsServe kinds meaning found.1 s
+Sets kinds meaning (Some found) (settings.Audit s) = (found.0 ≡ codes "audit") × SetsAudit kinds found.1 s
+Sets kinds meaning (Some found) (settings.Draw s) = (found.0 ≡ codes "draw") × SetsDraw kinds found.1 s
 
 -- the words give these settings
-abbrev pub IsSet : Meanings → List Text → Settings → Type 0
-IsSet meaning words s = Sets meaning (subcommand_of abft_app words) s
+abbrev pub IsSet : ProgramWords → Meanings → List Text → Settings → Type 0
+IsSet program meaning words s = Sets program.kinds meaning (subcommand_of (abft_app program) words) s
 
 -- the words are no command line of the program, or give no settings
-abbrev pub IsRefused : Meanings → List Text → Type 0
-IsRefused meaning words = takes abft_app words ≡ true → (s : Settings) → IsSet meaning words s → ⊥
+abbrev pub IsRefused : ProgramWords → Meanings → List Text → Type 0
+IsRefused program meaning words = takes (abft_app program) words ≡ true → (s : Settings) → IsSet program meaning words s → ⊥
 
 -- the fault is that memory ran out, here or in clap
 abbrev pub WantsMemory : UsageFault → Type 0
@@ -339,7 +353,7 @@ WantsMemory (fault.Spelling option why) = ⊥
 WantsMemory (fault.NoTransaction option word) = ⊥
 WantsMemory (fault.Rejected option code word) = ⊥
 WantsMemory (fault.Receipt word) = ⊥
-WantsMemory (fault.NamedInput input word) = ⊥
+WantsMemory (fault.NamedInput name input word) = ⊥
 WantsMemory (fault.What word) = ⊥
 WantsMemory (fault.Level word) = ⊥
 WantsMemory (fault.Missing option) = ⊥
@@ -357,7 +371,7 @@ AsksForText (fault.Spelling option why) = ⊥
 AsksForText (fault.NoTransaction option word) = ⊥
 AsksForText (fault.Rejected option code word) = ⊥
 AsksForText (fault.Receipt word) = ⊥
-AsksForText (fault.NamedInput input word) = ⊥
+AsksForText (fault.NamedInput name input word) = ⊥
 AsksForText (fault.What word) = ⊥
 AsksForText (fault.Level word) = ⊥
 AsksForText (fault.Missing option) = ⊥

@@ -4,8 +4,8 @@ use crate::subcommand::{Argument, Kind, Subcommand};
 
 /// The end of `abft audit --help`.
 const FINDINGS: &str = "\
-Input: the histories of N-t replicas or more, as bytes, one after another. 'abft simulate --histories' prints such bytes,
-and 'abft cluster --histories FILE' writes them. The options are those of the cluster.
+Input: the histories of N-t replicas or more, as bytes, one after another. 'simulate --histories' prints such bytes,
+and 'cluster --histories FILE' writes them. The options are those of the cluster.
 
 Lines, if the histories are those of one ledger:
   ledger C  the ledger has C blocks
@@ -45,4 +45,5 @@ pub(crate) const AUDIT: Subcommand = Subcommand {
         REPLICAS, FAULTS, APP_KIND, WIDTH, TREE, FRAMES, SEED, RECEIPT,
     ],
     after_help: FINDINGS,
+    own_help: None,
 };

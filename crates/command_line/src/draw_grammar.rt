@@ -4,8 +4,8 @@ use crate::subcommand::{Argument, Kind, Subcommand};
 
 /// The end of `abft draw --help`.
 const PICTURE: &str = "\
-Input: the histories of replicas, as bytes, one after another. 'abft simulate --histories' prints such bytes, and
-'abft cluster --histories FILE' writes them. The options are those of the cluster: histories of version 2 need --frames 2.
+Input: the histories of replicas, as bytes, one after another. 'simulate --histories' prints such bytes, and
+'cluster --histories FILE' writes them. The options are those of the cluster: histories of version 2 need --frames 2.
 A history is drawn up to its first entry that is not lawful after those before it, or sends what is not signed.
 
 Output: an SVG document, or 'bad history' if the input is not spelled as histories. docs/PICTURES.md says how to read it.
@@ -46,4 +46,5 @@ pub(crate) const DRAW: Subcommand = Subcommand {
         REPLICAS, FAULTS, APP_KIND, WIDTH, TREE, FRAMES, SEED, HEIGHT, FIRST, LAST,
     ],
     after_help: PICTURE,
+    own_help: None,
 };

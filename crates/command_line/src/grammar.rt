@@ -1,5 +1,5 @@
 //! The grammar of the command line, as clap gets it: subcommands, options, defaults and help.
-ghost use Rattle.std.specs.Prelude.{◌≡◌, IfOk, codes};
+ghost use Rattle.std.specs.Prelude.{◌≡◌, IfOk};
 ghost use Rattle.clap.specs.Words.{app_of, new_app};
 ghost use Rattle.command_line.specs.Grammar.{at_top, abft_app};
 
@@ -8,7 +8,9 @@ use crate::draw_grammar::DRAW;
 use crate::running_grammar::{RUN_CLUSTER, SERVE};
 use crate::shared_arguments::{APP_KIND, FAULTS, FRAMES, REPLICAS, SEED, TREE, WIDTH};
 use crate::subcommand::{Argument, Kind, Subcommand, clap_commands};
+use app_states::Opening;
 use clap::Command;
+use ledger_model::AppKinds;
 use std::alloc::{AllocError, Global};
 
 /// The version that `abft --version` prints.
@@ -17,6 +19,10 @@ const VERSION: &str = "0.1.0";
 /// The end of `abft --help`.
 const EXAMPLE: &str = "Example:
   abft sign report --replica 2 --value b=7 | abft deliver --replica 1";
+
+/// The end of the help of a program with an application of its own.
+const OWN_EXAMPLE: &str =
+    "The ledger is that of abft, with another application: its documents hold for this program, too.";
 
 /// The end of `abft sign --help`.
 const SIGNED: &str = "\
@@ -87,6 +93,19 @@ Exit status:
   2  a fault of usage
   3  out of memory, or a failed read or write";
 
+/// The end of `simulate --help` in a program with an application of its own.
+const OWN_SCENARIO: &str = "\
+Input, a scenario: the line 'config N T 0', liars if any, and the steps, such as 'submit 0 TX', 'propose 0 1', 'round' and
+'execute 1'. docs/SCENARIOS.md of the ledger has all steps, and all lines that they print.
+With --histories the histories of the correct replicas are written, as bytes, in place of the lines.
+A text with a bad line prints 'line N bad' alone, with the number of the first bad line.
+
+Exit status:
+  0  the scenario was played
+  1  'line N bad' was printed, and nothing was played
+  2  a fault of usage
+  3  out of memory, or a failed read or write";
+
 /// What is signed.
 const WHAT: Argument = Argument {
     name: "what",
@@ -118,7 +137,7 @@ const PHASE: Argument = Argument {
 /// The batch that the statement has.
 const VALUE: Argument = Argument {
     name: "value",
-    kind: Kind::Value("a=1"),
+    kind: Kind::FirstTx,
     help: "The one transaction of the batch",
 };
 
@@ -131,6 +150,7 @@ const SIGN: Subcommand = Subcommand {
         REPLICAS, FAULTS, APP_KIND, WIDTH, TREE, FRAMES, SEED, WHAT, SIGNER, HEIGHT, PHASE, VALUE,
     ],
     after_help: SIGNED,
+    own_help: None,
 };
 
 /// The replica that reads the frames.
@@ -143,7 +163,7 @@ const RECIPIENT: Argument = Argument {
 /// The transaction of its pool.
 const SUBMITTED: Argument = Argument {
     name: "value",
-    kind: Kind::Value("a=1"),
+    kind: Kind::FirstTx,
     help: "The transaction that it submits",
 };
 
@@ -170,6 +190,7 @@ const DELIVER: Subcommand = Subcommand {
         REPLICAS, FAULTS, APP_KIND, WIDTH, TREE, FRAMES, SEED, RECIPIENT, SUBMITTED, OPENED, ENDED,
     ],
     after_help: LINES,
+    own_help: None,
 };
 
 /// Whether histories are written, and not lines.
@@ -186,26 +207,36 @@ const SIMULATE: Subcommand = Subcommand {
     usage: Some("abft simulate [OPTIONS] <SCENARIO"),
     arguments: &[SEED, AS_BYTES],
     after_help: SCENARIO,
+    own_help: Some(OWN_SCENARIO),
 };
 
 /// The subcommands, in the order of `abft --help`.
 const SUBCOMMANDS: [Subcommand; 7] = [SIGN, DELIVER, SIMULATE, RUN_CLUSTER, SERVE, AUDIT, DRAW];
 
+/// The end of the program's help.
+fn example(kinds: AppKinds) -> &'static str {
+    match kinds {
+        AppKinds::Three => EXAMPLE,
+        AppKinds::OwnAlone => OWN_EXAMPLE,
+    }
+}
+
 /// The command of the program, without its subcommands.
-fn top_command<'a>(alloc: Global) -> Command<'a>
-    ensures { app_of result ≡ at_top (new_app (codes "abft")) }
+fn top_command<'a, A: Opening>(alloc: Global) -> Command<'a>
+    ensures { app_of result ≡ at_top (new_app A.words.name) }
 {
-    Command::new(alloc, "abft")
+    let name: &'a str = A::name();
+    Command::new(alloc, name)
         .about("A Byzantine fault tolerant replicated ledger")
         .version(VERSION)
-        .after_help(EXAMPLE)
+        .after_help(example(A::kinds()))
         .subcommand_required(true)
 }
 
 /// The command line of the program.
-pub(crate) fn abft_command<'a>(alloc: Global) -> Result<Command<'a>, AllocError>
-    ensures { IfOk result (λ c. app_of c ≡ abft_app) }
+pub(crate) fn abft_command<'a, A: Opening>(alloc: Global) -> Result<Command<'a>, AllocError>
+    ensures { IfOk result (λ c. app_of c ≡ abft_app A.words) }
 {
-    let commands = clap_commands(alloc, &SUBCOMMANDS)?;
-    top_command(alloc).subcommands(commands)
+    let commands = clap_commands::<A>(alloc, &SUBCOMMANDS)?;
+    top_command::<A>(alloc).subcommands(commands)
 }

@@ -22,24 +22,28 @@ fn operand<'a>(words: &'a [&'a str]) -> Option<&'a str>
 }
 
 /// The fault if a word names a file, but the subcommand reads standard input.
-fn named_input<'a>(words: &'a [&'a str]) -> Option<UsageFault<'a>>
-    ensures { IfSome result (NamesInput (map (λ w. w.now) words.entry.now)) }
+fn named_input<'a>(program: &'static str, words: &'a [&'a str]) -> Option<UsageFault<'a>>
+    ensures { IfSome result (NamesInput program.now (map (λ w. w.now) words.entry.now)) }
 {
     let word = operand(words)?;
     match *words.get(1)? {
         "deliver" => Some(UsageFault::NamedInput {
+            program,
             input: Input::Frames,
             word,
         }),
         "simulate" => Some(UsageFault::NamedInput {
+            program,
             input: Input::Scenario,
             word,
         }),
         "audit" => Some(UsageFault::NamedInput {
+            program,
             input: Input::AuditedHistories,
             word,
         }),
         "draw" => Some(UsageFault::NamedInput {
+            program,
             input: Input::DrawnHistories,
             word,
         }),
@@ -47,14 +51,18 @@ fn named_input<'a>(words: &'a [&'a str]) -> Option<UsageFault<'a>>
     }
 }
 
-/// The fault of words that clap refuses with this error.
-pub(crate) fn fault_of<'a>(error: clap::Error, words: &'a [&'a str]) -> UsageFault<'a>
+/// The fault of words that clap refuses with this error, for a program of this name.
+pub(crate) fn fault_of<'a>(
+    error: clap::Error,
+    program: &'static str,
+    words: &'a [&'a str],
+) -> UsageFault<'a>
     ensures kept { (kind_of error ≡ kind.UnknownArgument → ⊥) → result ≡ fault.CommandLine error }
     ensures named { (result ≡ fault.CommandLine error)
-        ⊎ ((kind_of error ≡ kind.UnknownArgument) × NamesInput (map (λ w. w.now) words.entry.now) result) }
+        ⊎ ((kind_of error ≡ kind.UnknownArgument) × NamesInput program.now (map (λ w. w.now) words.entry.now) result) }
 {
     if error.kind() == ErrorKind::UnknownArgument
-        && let Some(fault) = named_input(words)
+        && let Some(fault) = named_input(program, words)
     {
         return fault;
     }

@@ -10,11 +10,11 @@ const COMMITS: &str = "\
 Lines at the end, one for each replica:
   commits R C  replica R committed C blocks
 
-Then the lines of an audit over the histories of all replicas, as 'abft audit --help' says:
+Then the lines of an audit over the histories of all replicas, as 'audit --help' says:
   ledger C     the histories are those of one ledger of C blocks
   H BATCH      its block at height H, one line for each
 
-With --histories FILE the histories are written to FILE, for 'abft audit <FILE' with the options of the cluster.
+With --histories FILE the histories are written to FILE, for 'audit <FILE' with the options of the cluster.
 Standard error shows progress; --log sets how much.
 
 Exit status:
@@ -32,13 +32,13 @@ The first line, and with --http the second:
 At the end, one line for each replica:
   commits R C  replica R committed C blocks
 
-Then the lines of an audit over the histories of all replicas, as 'abft audit --help' says:
+Then the lines of an audit over the histories of all replicas, as 'audit --help' says:
   ledger C     the histories are those of one ledger of C blocks
   H BATCH      its block at height H, one line for each
 
 The server ends when the rounds are over and as many connections as --sessions says have opened and closed,
 or, with --stop-at-eof, when standard input ends.
-With --histories FILE the histories are written to FILE, for 'abft audit <FILE' with the options of the cluster.
+With --histories FILE the histories are written to FILE, for 'audit <FILE' with the options of the cluster.
 Standard error shows progress; --log sets how much.
 docs/OPERATING.md has the rest.
 
@@ -59,6 +59,7 @@ pub(crate) const RUN_CLUSTER: Subcommand = Subcommand {
         QUIET, STOP_EARLY, HISTORIES,
     ],
     after_help: COMMITS,
+    own_help: None,
 };
 
 /// The port of the sessions.
@@ -99,4 +100,5 @@ pub(crate) const SERVE: Subcommand = Subcommand {
         QUIET, STOP_EARLY, HISTORIES, PORT, HTTP_PORT, SESSIONS, ENTRIES,
     ],
     after_help: LISTENING,
+    own_help: None,
 };

@@ -1,6 +1,7 @@
 //! The settings that the words of a command line give.
 ghost use Rattle.std.specs.Prelude.{◌≡◌, [], map, true, IfOk, IfErr, OnErr};
 ghost use Rattle.clap.specs.Words.{found_of, rows_of, subcommand_of, subcommand_rows_of, takes};
+ghost use Rattle.ledger_model.specs.declared.config.AppKinds.{AppKinds};
 ghost use Rattle.ledger_model.specs.Meanings.{Meanings};
 ghost use Rattle.command_line.specs.Faults.{IsRightFault, IsRightIn, IsRightOf, kinds_of};
 ghost use Rattle.command_line.specs.Grammar.{abft_app};
@@ -22,7 +23,7 @@ use crate::options::{
 use crate::receipts::receipt;
 use crate::refused_words::fault_of;
 use crate::usage_fault::UsageFault;
-use app_kinds::Opening;
+use app_states::Opening;
 use clap::ArgMatches;
 use cluster_setup::{
     AuditSettings, ClusterSettings, DeliverSettings, DrawSettings, ServeSettings, Settings,
@@ -32,15 +33,15 @@ use ledger_model::{Height, Phase, ReplicaId};
 use std::alloc::Global;
 
 /// The settings of `abft sign`, from its matches.
-fn sign_settings<'a>(
+fn sign_settings<'a, A: Opening>(
     alloc: Global,
     matches: &ArgMatches<'a>,
 ) -> Result<SignSettings, UsageFault<'a>>
-    ensures some { IfOk result (λ s. SetsSign (rows_of (found_of matches.now)) s) }
-    ensures none { IfErr result (λ e. (s : SignSettings) → SetsSign (rows_of (found_of matches.now)) s → WantsMemory e) }
-    ensures right { (meaning : Meanings) → IfErr result (IsRightOf meaning sign_options (rows_of (found_of matches.now))) }
+    ensures some { IfOk result (λ s. SetsSign A.words.kinds (rows_of (found_of matches.now)) s) }
+    ensures none { IfErr result (λ e. (s : SignSettings) → SetsSign A.words.kinds (rows_of (found_of matches.now)) s → WantsMemory e) }
+    ensures right { (meaning : Meanings) → IfErr result (IsRightOf A.words.kinds meaning sign_options (rows_of (found_of matches.now))) }
 {
-    let cluster = cluster(matches)?;
+    let cluster = cluster::<A>(matches)?;
     let what = what(matches)?;
     let replica = small_number(matches, "replica", 0, cluster.config.replicas - 1)?;
     let height = number(matches, "height", 1, 4096)?;
@@ -61,11 +62,11 @@ fn deliver_settings<'a, A: Opening>(
     alloc: Global,
     matches: &ArgMatches<'a>,
 ) -> Result<DeliverSettings, UsageFault<'a>>
-    ensures some { IfOk result (λ s. SetsDeliver A.meaning (rows_of (found_of matches.now)) s) }
-    ensures none { IfErr result (λ e. (s : DeliverSettings) → SetsDeliver A.meaning (rows_of (found_of matches.now)) s → WantsMemory e) }
-    ensures right { IfErr result (IsRightOf A.meaning deliver_options (rows_of (found_of matches.now))) }
+    ensures some { IfOk result (λ s. SetsDeliver A.words.kinds A.meaning (rows_of (found_of matches.now)) s) }
+    ensures none { IfErr result (λ e. (s : DeliverSettings) → SetsDeliver A.words.kinds A.meaning (rows_of (found_of matches.now)) s → WantsMemory e) }
+    ensures right { IfErr result (IsRightOf A.words.kinds A.meaning deliver_options (rows_of (found_of matches.now))) }
 {
-    let cluster = cluster(matches)?;
+    let cluster = cluster::<A>(matches)?;
     let replica = small_number(matches, "replica", 0, cluster.config.replicas - 1)?;
     let value = accepted_transaction::<A>(alloc, matches, "value", cluster.config.kind)?;
     let height = number(matches, "height", 1, 4)?;
@@ -83,7 +84,7 @@ fn deliver_settings<'a, A: Opening>(
 fn simulate_settings<'a>(matches: &ArgMatches<'a>) -> Result<SimulateSettings, UsageFault<'a>>
     ensures some { IfOk result (λ s. SetsSimulate (rows_of (found_of matches.now)) s) }
     ensures none { OnErr result ((s : SimulateSettings) → SetsSimulate (rows_of (found_of matches.now)) s → ⊥) }
-    ensures right { (meaning : Meanings) → IfErr result (IsRightOf meaning simulate_options (rows_of (found_of matches.now))) }
+    ensures right { (kinds : AppKinds) (meaning : Meanings) → IfErr result (IsRightOf kinds meaning simulate_options (rows_of (found_of matches.now))) }
 {
     let seed = seed(matches)?;
     Ok(SimulateSettings {
@@ -97,11 +98,11 @@ fn cluster_settings<'a, A: Opening>(
     alloc: Global,
     matches: &ArgMatches<'a>,
 ) -> Result<ClusterSettings, UsageFault<'a>>
-    ensures some { IfOk result (λ s. SetsRunning A.meaning (rows_of (found_of matches.now)) s) }
-    ensures none { IfErr result (λ e. (s : ClusterSettings) → SetsRunning A.meaning (rows_of (found_of matches.now)) s → WantsMemory e) }
-    ensures right { (table : OptionTable) → HasRunning table → IfErr result (IsRightOf A.meaning table (rows_of (found_of matches.now))) }
+    ensures some { IfOk result (λ s. SetsRunning A.words.kinds A.meaning (rows_of (found_of matches.now)) s) }
+    ensures none { IfErr result (λ e. (s : ClusterSettings) → SetsRunning A.words.kinds A.meaning (rows_of (found_of matches.now)) s → WantsMemory e) }
+    ensures right { (table : OptionTable) → HasRunning A.words.kinds table → IfErr result (IsRightOf A.words.kinds A.meaning table (rows_of (found_of matches.now))) }
 {
-    let cluster = cluster(matches)?;
+    let cluster = cluster::<A>(matches)?;
     let tx = accepted_transaction::<A>(alloc, matches, "tx", cluster.config.kind)?;
     let rounds = number(matches, "rounds", 0, 4_000_000_000)?;
     let base_ms = number(matches, "base-ms", 1, 60_000)?;
@@ -123,9 +124,9 @@ fn serve_settings<'a, A: Opening>(
     alloc: Global,
     matches: &ArgMatches<'a>,
 ) -> Result<ServeSettings, UsageFault<'a>>
-    ensures some { IfOk result (λ s. SetsServe A.meaning (rows_of (found_of matches.now)) s) }
-    ensures none { IfErr result (λ e. (s : ServeSettings) → SetsServe A.meaning (rows_of (found_of matches.now)) s → WantsMemory e) }
-    ensures right { IfErr result (IsRightOf A.meaning serve_options (rows_of (found_of matches.now))) }
+    ensures some { IfOk result (λ s. SetsServe A.words.kinds A.meaning (rows_of (found_of matches.now)) s) }
+    ensures none { IfErr result (λ e. (s : ServeSettings) → SetsServe A.words.kinds A.meaning (rows_of (found_of matches.now)) s → WantsMemory e) }
+    ensures right { IfErr result (IsRightOf A.words.kinds A.meaning serve_options (rows_of (found_of matches.now))) }
 {
     let cluster = cluster_settings::<A>(alloc, matches)?;
     let port = number(matches, "port", 0, 65_535)?;
@@ -142,26 +143,26 @@ fn serve_settings<'a, A: Opening>(
 }
 
 /// The settings of `abft audit`, from its matches.
-fn audit_settings<'a>(
+fn audit_settings<'a, A: Opening>(
     alloc: Global,
     matches: &ArgMatches<'a>,
 ) -> Result<AuditSettings, UsageFault<'a>>
-    ensures some { IfOk result (λ s. SetsAudit (rows_of (found_of matches.now)) s) }
-    ensures none { IfErr result (λ e. (s : AuditSettings) → SetsAudit (rows_of (found_of matches.now)) s → WantsMemory e) }
-    ensures right { (meaning : Meanings) → IfErr result (IsRightOf meaning audit_options (rows_of (found_of matches.now))) }
+    ensures some { IfOk result (λ s. SetsAudit A.words.kinds (rows_of (found_of matches.now)) s) }
+    ensures none { IfErr result (λ e. (s : AuditSettings) → SetsAudit A.words.kinds (rows_of (found_of matches.now)) s → WantsMemory e) }
+    ensures right { (meaning : Meanings) → IfErr result (IsRightOf A.words.kinds meaning audit_options (rows_of (found_of matches.now))) }
 {
-    let cluster = cluster(matches)?;
+    let cluster = cluster::<A>(matches)?;
     let receipt = receipt(alloc, matches)?;
     Ok(AuditSettings { cluster, receipt })
 }
 
 /// The settings of `abft draw`, from its matches.
-fn draw_settings<'a>(matches: &ArgMatches<'a>) -> Result<DrawSettings, UsageFault<'a>>
-    ensures some { IfOk result (λ s. SetsDraw (rows_of (found_of matches.now)) s) }
-    ensures none { IfErr result (λ e. (s : DrawSettings) → SetsDraw (rows_of (found_of matches.now)) s → WantsMemory e) }
-    ensures right { (meaning : Meanings) → IfErr result (IsRightOf meaning draw_options (rows_of (found_of matches.now))) }
+fn draw_settings<'a, A: Opening>(matches: &ArgMatches<'a>) -> Result<DrawSettings, UsageFault<'a>>
+    ensures some { IfOk result (λ s. SetsDraw A.words.kinds (rows_of (found_of matches.now)) s) }
+    ensures none { IfErr result (λ e. (s : DrawSettings) → SetsDraw A.words.kinds (rows_of (found_of matches.now)) s → WantsMemory e) }
+    ensures right { (meaning : Meanings) → IfErr result (IsRightOf A.words.kinds meaning draw_options (rows_of (found_of matches.now))) }
 {
-    let cluster = cluster(matches)?;
+    let cluster = cluster::<A>(matches)?;
     let height = number(matches, "height", 0, 4096)?;
     let first = number(matches, "first", 0, 4_000_000_000)?;
     let last = number(matches, "last", 0, 4_000_000_000)?;
@@ -174,16 +175,19 @@ fn draw_settings<'a>(matches: &ArgMatches<'a>) -> Result<DrawSettings, UsageFaul
 }
 
 /// The matches of the words, of which the first is the program's name.
-fn matches_of<'a>(alloc: Global, words: &'a [&'a str]) -> Result<ArgMatches<'a>, UsageFault<'a>>
-    ensures found { IfOk result (λ m. subcommand_rows_of m ≡ subcommand_of abft_app (map (λ w. w.now) words.entry.now)) }
-    ensures refused { IfErr result (λ e. takes abft_app (map (λ w. w.now) words.entry.now) ≡ true → WantsMemory e) }
-    ensures taken { IfOk result (λ _. kinds_of (map (λ w. w.now) words.entry.now) ≡ []) }
-    ensures right { (meaning : Meanings) → IfErr result (IsRightFault meaning (map (λ w. w.now) words.entry.now)) }
+fn matches_of<'a, A: Opening>(
+    alloc: Global,
+    words: &'a [&'a str],
+) -> Result<ArgMatches<'a>, UsageFault<'a>>
+    ensures found { IfOk result (λ m. subcommand_rows_of m ≡ subcommand_of (abft_app A.words) (map (λ w. w.now) words.entry.now)) }
+    ensures refused { IfErr result (λ e. takes (abft_app A.words) (map (λ w. w.now) words.entry.now) ≡ true → WantsMemory e) }
+    ensures taken { IfOk result (λ _. kinds_of A.words (map (λ w. w.now) words.entry.now) ≡ []) }
+    ensures right { (meaning : Meanings) → IfErr result (IsRightFault A.words meaning (map (λ w. w.now) words.entry.now)) }
 {
-    let command = abft_command(alloc)?;
+    let command = abft_command::<A>(alloc)?;
     match command.try_get_matches_from(words) {
         Ok(matches) => Ok(matches),
-        Err(error) => Err(fault_of(error, words)),
+        Err(error) => Err(fault_of(error, A::name(), words)),
     }
 }
 
@@ -192,21 +196,21 @@ fn settings_of<'a, A: Opening>(
     alloc: Global,
     matches: &ArgMatches<'a>,
 ) -> Result<Settings, UsageFault<'a>>
-    ensures set { IfOk result (λ s. Sets A.meaning (subcommand_rows_of matches.now) s) }
-    ensures refused { IfErr result (λ e. (s : Settings) → Sets A.meaning (subcommand_rows_of matches.now) s → WantsMemory e) }
-    ensures right { IfErr result (IsRightIn A.meaning (subcommand_rows_of matches.now)) }
+    ensures set { IfOk result (λ s. Sets A.words.kinds A.meaning (subcommand_rows_of matches.now) s) }
+    ensures refused { IfErr result (λ e. (s : Settings) → Sets A.words.kinds A.meaning (subcommand_rows_of matches.now) s → WantsMemory e) }
+    ensures right { IfErr result (IsRightIn A.words.kinds A.meaning (subcommand_rows_of matches.now)) }
 {
     let Some((name, options)) = matches.subcommand() else {
         return Err(UsageFault::NoSubcommand);
     };
     match name {
-        "sign" => sign_settings(alloc, options).map(Settings::Sign),
+        "sign" => sign_settings::<A>(alloc, options).map(Settings::Sign),
         "deliver" => deliver_settings::<A>(alloc, options).map(Settings::Deliver),
         "simulate" => simulate_settings(options).map(Settings::Simulate),
         "cluster" => cluster_settings::<A>(alloc, options).map(Settings::Cluster),
         "serve" => serve_settings::<A>(alloc, options).map(Settings::Serve),
-        "audit" => audit_settings(alloc, options).map(Settings::Audit),
-        "draw" => draw_settings(options).map(Settings::Draw),
+        "audit" => audit_settings::<A>(alloc, options).map(Settings::Audit),
+        "draw" => draw_settings::<A>(options).map(Settings::Draw),
         _ => Err(UsageFault::NoSubcommand),
     }
 }
@@ -219,15 +223,15 @@ pub fn settings<'a, A: Opening>(
     alloc: Global,
     words: &'a [&'a str],
 ) -> Result<Settings, UsageFault<'a>>
-    ensures set { IfOk result (λ s. IsSet A.meaning (map (λ w. w.now) words.entry.now) s) }
+    ensures set { IfOk result (λ s. IsSet A.words A.meaning (map (λ w. w.now) words.entry.now) s) }
     // The words have no fault, and ask for neither the help nor the version.
-    ensures taken { IfOk result (λ _. kinds_of (map (λ w. w.now) words.entry.now) ≡ []) }
+    ensures taken { IfOk result (λ _. kinds_of A.words (map (λ w. w.now) words.entry.now) ≡ []) }
     // Words that set something are refused only if memory runs out.
-    ensures refused { IfErr result (λ e. takes abft_app (map (λ w. w.now) words.entry.now) ≡ true
-        → (s : Settings) → IsSet A.meaning (map (λ w. w.now) words.entry.now) s → WantsMemory e) }
+    ensures refused { IfErr result (λ e. takes (abft_app A.words) (map (λ w. w.now) words.entry.now) ≡ true
+        → (s : Settings) → IsSet A.words A.meaning (map (λ w. w.now) words.entry.now) s → WantsMemory e) }
     // What the fault says about the words is true.
-    ensures right { IfErr result (IsRightFault A.meaning (map (λ w. w.now) words.entry.now)) }
+    ensures right { IfErr result (IsRightFault A.words A.meaning (map (λ w. w.now) words.entry.now)) }
 {
-    let matches = matches_of(alloc, words)?;
+    let matches = matches_of::<A>(alloc, words)?;
     settings_of::<A>(alloc, &matches)
 }

@@ -18,7 +18,7 @@ pub(crate) const FAULTS: Argument = Argument {
 /// The application.
 pub(crate) const APP_KIND: Argument = Argument {
     name: "kind",
-    kind: Kind::Value("1"),
+    kind: Kind::Choice("1"),
     help: "The application: 1 keys and values, 2 a counter, 3 a purse",
 };
 
@@ -53,7 +53,7 @@ pub(crate) const SEED: Argument = Argument {
 /// The transaction of a run.
 pub(crate) const FIRST_TX: Argument = Argument {
     name: "tx",
-    kind: Kind::Value("a=1"),
+    kind: Kind::FirstTx,
     help: "The transaction that each pool is given",
 };
 

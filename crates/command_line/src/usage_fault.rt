@@ -66,8 +66,9 @@ pub enum UsageFault<'a> {
     },
     /// The word for `--receipt` is no receipt: `R:I:TX`, the numbers of a replica and of an entry, and a transaction.
     Receipt(&'a str),
-    /// The subcommand reads this from standard input, and not from the file that the word names.
+    /// The subcommand of the program of this name reads this from standard input, and not from the file that the word names.
     NamedInput {
+        program: &'static str,
         input: Input,
         word: &'a str,
     },
@@ -151,15 +152,23 @@ fn show_rejected<W: fmt::Write>(
 }
 
 /// Writes how a subcommand gets its input, which the words named.
-fn show_named<W: fmt::Write>(f: &mut fmt::Formatter<W>, input: Input, word: &str) -> fmt::Result {
-    let told = match input {
-        Input::Frames => "the frames come on standard input: abft deliver",
-        Input::Scenario => "the scenario comes on standard input: abft simulate",
-        Input::AuditedHistories => "the histories come on standard input: abft audit",
-        Input::DrawnHistories => "the histories come on standard input: abft draw",
+fn show_named<W: fmt::Write>(
+    f: &mut fmt::Formatter<W>,
+    program: &str,
+    input: Input,
+    word: &str,
+) -> fmt::Result {
+    let (told, subcommand) = match input {
+        Input::Frames => ("the frames come", "deliver"),
+        Input::Scenario => ("the scenario comes", "simulate"),
+        Input::AuditedHistories => ("the histories come", "audit"),
+        Input::DrawnHistories => ("the histories come", "draw"),
     };
     let word = ShownText(word);
-    write!(f, "error: {told} <{word}")
+    write!(
+        f,
+        "error: {told} on standard input: {program} {subcommand} <{word}"
+    )
 }
 
 /// Writes what is expected, and the word that is there.
@@ -227,7 +236,11 @@ impl fmt::Display for UsageFault<'_> {
                     word,
                 )
             }
-            UsageFault::NamedInput { input, word } => show_named(f, *input, word),
+            UsageFault::NamedInput {
+                program,
+                input,
+                word,
+            } => show_named(f, program, *input, word),
             UsageFault::What(word) => show_wanted(f, "what to sign is 'report' or 'ack'", word),
             UsageFault::Level(word) => show_wanted(f, "--log is off, warn, info or debug", word),
             UsageFault::Missing(option) => show_option(f, option, &"is missing"),

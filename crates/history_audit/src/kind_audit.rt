@@ -5,7 +5,7 @@ ghost use Rattle.history_audit.specs.Findings.{IsFinding};
 
 use crate::auditing::audit;
 use crate::fault::AuditFault;
-use app_kinds::{Opening, new_apps};
+use app_states::{Opening, new_apps};
 use byte_streams::{ProgramFault, new_random_key};
 use key_ring::KeyRing;
 use ledger_model::{Config, History, Ledger};

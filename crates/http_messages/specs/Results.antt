@@ -3,7 +3,7 @@ use Rattle.std.specs.Prelude.{ℕ, List, [], ◌∷◌, ◌++◌, codes, decimal
 use Rattle.std.specs.List.{flat_map}
 use Rattle.ledger_model.specs.Values.{Value}
 use Rattle.ledger_model.specs.declared.config.AppKind.{AppKind}
-use Rattle.ledger_model.specs.declared.config.AppKind.TheVariants.{KvStore, Counter, Purse}
+use Rattle.ledger_model.specs.declared.config.AppKind.TheVariants.{Own, KvStore, Counter, Purse}
 use Rattle.http_messages.specs.Texts.{joined, base64_text, hash_text, json_value}
 
 -- how far a replica is
@@ -15,6 +15,7 @@ status_result replica round height =
 
 -- the name of a kind of application
 abbrev pub kind_name : AppKind → List ℕ
+kind_name Own = codes "own"
 kind_name KvStore = codes "kvstore"
 kind_name Counter = codes "counter"
 kind_name Purse = codes "purse"

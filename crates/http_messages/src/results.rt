@@ -35,6 +35,7 @@ fn kind_name(kind: AppKind) -> &'static str
     ensures { result.now ≡ kind_name kind }
 {
     match kind {
+        AppKind::Own => "own",
         AppKind::KvStore => "kvstore",
         AppKind::Counter => "counter",
         AppKind::Purse => "purse",

@@ -6,7 +6,7 @@ use Rattle.std.specs.Cmp.Lexicographic.{slice_cmp}
 use Rattle.std.specs.Ordering.{nat_cmp, is_lt}
 use Rattle.std.specs.Int.{w32, w64, to_be_bytes, from_be_bytes}
 use Rattle.ledger_model.specs.declared.config.AppKind.{AppKind}
-use Rattle.ledger_model.specs.declared.config.AppKind.TheVariants.{KvStore, Counter, Purse}
+use Rattle.ledger_model.specs.declared.config.AppKind.TheVariants.{Own, KvStore, Counter, Purse}
 use Rattle.ledger_model.specs.Values.{same_bytes}
 use Rattle.ledger_model.specs.Meanings.{Meaning}
 
@@ -156,8 +156,9 @@ purse = record {
 
 -- ---- the three kinds
 
--- what the applications of a kind mean
+-- What the applications of a kind mean. A program that has the three refuses the kind of an application of one's own.
 abbrev pub meaning_of : AppKind → Meaning
+meaning_of Own = store
 meaning_of KvStore = store
 meaning_of Counter = counter
 meaning_of Purse = purse

@@ -10,6 +10,8 @@ use thiserror::Error;
 /// Which application every replica runs.
 #[derive(Clone, Copy, Debug, PartialEq, Eq)]
 pub enum AppKind {
+    /// The one application of a program that has an application of its own.
+    Own,
     KvStore,
     Counter,
     Purse,
@@ -19,16 +21,44 @@ impl AppKind {
     ghost use Rattle.std.specs.Prelude.{◌≡◌};
     ghost use Rattle.ledger_model.specs.Numbers.{kind_of_number};
 
-    /// The application with this number, which is 1, 2 or 3.
+    /// The kind with this number: 0 is an application of one's own, 1 to 3 are the three.
     #[tactic(auto, unfolding(crate::specs::Numbers::kind_of_number))]
     pub fn from_number(number: u32) -> Option<AppKind>
         ensures { result ≡ kind_of_number number }
     {
         match number {
+            0 => Some(AppKind::Own),
             1 => Some(AppKind::KvStore),
             2 => Some(AppKind::Counter),
             3 => Some(AppKind::Purse),
             _ => None,
+        }
+    }
+}
+
+/// Which kinds of applications a program has.
+#[derive(Clone, Copy, Debug, PartialEq, Eq)]
+pub enum AppKinds {
+    /// The three, of which its user chooses one.
+    Three,
+    /// An application of its own.
+    OwnAlone,
+}
+
+impl AppKinds {
+    ghost use Rattle.std.specs.Prelude.{◌≡◌};
+    ghost use Rattle.ledger_model.specs.Numbers.{has_kind};
+
+    /// Whether this kind is one of them.
+    #[tactic(auto, unfolding(crate::specs::Numbers::has_kind))]
+    pub fn has(self, kind: AppKind) -> bool
+        ensures { result ≡ has_kind self kind }
+    {
+        match (self, kind) {
+            (AppKinds::Three, AppKind::Own) => false,
+            (AppKinds::Three, _) => true,
+            (AppKinds::OwnAlone, AppKind::Own) => true,
+            (AppKinds::OwnAlone, _) => false,
         }
     }
 }

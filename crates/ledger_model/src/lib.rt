@@ -21,7 +21,7 @@ mod world;
 
 pub use addressing::goes_to;
 pub use batch::{Batch, BatchFault, Key, KeyFault, Tx, TxFault};
-pub use config::{AppKind, Config, ConfigFault};
+pub use config::{AppKind, AppKinds, Config, ConfigFault};
 pub use event::Event;
 pub use fault::ApplyFault;
 pub use history::{Entries, Entry, History};

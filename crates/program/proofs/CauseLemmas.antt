@@ -1,6 +1,6 @@
 -- Why `abft deliver` stops, from call to call.
 use Rattle.ledger_model.specs.Meanings.{Meanings}
-use Rattle.std.proofs.Common.{◌≡◌, ℕ, ◌≤◌, List, length, refl, subst, sym}
+use Rattle.std.proofs.Common.{ℕ, ◌≤◌, List, length, refl, subst, sym}
 use Rattle.std.specs.Prelude.{Option, Result, Ok, Err, IfErr, IsTrue}
 use Rattle.ledger_model.specs.declared.history.Entry.{Entry}
 use Rattle.cluster_setup.specs.declared.deliver_settings.DeliverSettings.{DeliverSettings}

@@ -1,4 +1,5 @@
 -- The cluster of a scenario: its liars may lie.
+use Rattle.ledger_model.specs.declared.config.AppKinds.{AppKinds}
 use Rattle.std.proofs.Common.{ℕ, ◌+◌, ◌<◌, ◌≤◌, true, false, List, [], ◌∷◌, length, nat_eq, suc, cond, arith}
 use Rattle.std.specs.Prelude.{Any}
 use Rattle.std.specs.List.{list_any}
@@ -21,8 +22,8 @@ different_few (x ∷ xs) =
     ]
 
 -- the liars of a scenario may lie
-pub may_lie : (s : Scenario) → IsPlan (plan_of s) → MayLie s.setup.config s.setup.liars.items
-may_lie s lawful = record {
+pub may_lie : (kinds : AppKinds) (s : Scenario) → IsPlan kinds (plan_of s) → MayLie s.setup.config s.setup.liars.items
+may_lie kinds s lawful = record {
   few = omega (arith, lawful.setup.few, different_few s.setup.liars.items);
   below = All-from_recursion (λ r. r < s.setup.config.replicas) s.setup.liars.items lawful.setup.replicas;
 }

@@ -1,4 +1,6 @@
 -- From what was done to the exit status of the program.
+use Rattle.app_states.specs.ProgramWords.{ProgramWords}
+use Rattle.ledger_model.specs.declared.config.AppKinds.{AppKinds}
 use Rattle.ledger_model.specs.Meanings.{Meanings}
 use Rattle.std.proofs.Common.{◌≡◌, ℕ, ◌≤◌, List, [], refl, sym, subst, ◌∙◌, inl, inr, arith}
 use Rattle.std.specs.Prelude.{◌⊎◌, Option, None, Result, Ok, Err, IfOk, MatchResult}
@@ -40,11 +42,11 @@ use Rattle.program.specs.Doing.{AsksForHistories, StartsRun, Done, ExplainsHisto
 use Rattle.program.specs.Doing.{settings_of, status_of_stream, status_of_text}
 
 -- the frame was written
-pub signed_done : (meaning : Meanings) (x : Piped) (s : SignSettings) (status : ℕ) (unread before after : Option (List ℕ))
+pub signed_done : (kinds : AppKinds) (meaning : Meanings) (x : Piped) (s : SignSettings) (status : ℕ) (unread before after : Option (List ℕ))
     → x ≡ piped.Sign s → status ≡ 0
-    → Appends before after (frame_bytes (signed s)) → Done meaning (settings_of x) status unread unread before after
-signed_done meaning x s status unread before after is zero written =
-    subst (λ y. Done meaning (settings_of y) status unread unread before after) (sym is) (
+    → Appends before after (frame_bytes (signed s)) → Done kinds meaning (settings_of x) status unread unread before after
+signed_done kinds meaning x s status unread before after is zero written =
+    subst (λ y. Done kinds meaning (settings_of y) status unread unread before after) (sym is) (
       zero,
       record {
         input = [];
@@ -57,50 +59,50 @@ signed_done meaning x s status unread before after is zero written =
     )
 
 -- a prefix of it was
-pub signed_halted : (meaning : Meanings) (x : Piped) (s : SignSettings) (unread before after : Option (List ℕ)) → x ≡ piped.Sign s
-    → AppendsSome before after (frame_bytes (signed s)) → Halted meaning (settings_of x) unread unread before after
-signed_halted meaning x s unread before after is written =
-    subst (λ y. Halted meaning (settings_of y) unread unread before after) (sym is)
+pub signed_halted : (kinds : AppKinds) (meaning : Meanings) (x : Piped) (s : SignSettings) (unread before after : Option (List ℕ)) → x ≡ piped.Sign s
+    → AppendsSome before after (frame_bytes (signed s)) → Halted kinds meaning (settings_of x) unread unread before after
+signed_halted kinds meaning x s unread before after is written =
+    subst (λ y. Halted kinds meaning (settings_of y) unread unread before after) (sym is)
     (record { input = []; text = frame_bytes (signed s); goes_with = (refl, refl); read = Consumes-nil unread; written = written })
 
 -- a stream was delivered
-pub delivered_done : (meaning : Meanings) (x : Piped) (s : DeliverSettings) (end : StreamEnd) (status : ℕ)
+pub delivered_done : (kinds : AppKinds) (meaning : Meanings) (x : Piped) (s : DeliverSettings) (end : StreamEnd) (status : ℕ)
     (unread left before after : Option (List ℕ))
     → x ≡ piped.Deliver s → status ≡ status_of_stream end
-    → DeliversStream meaning s end unread left before after → Done meaning (settings_of x) status unread left before after
-delivered_done meaning x s end status unread left before after is answered done =
-    subst (λ y. Done meaning (settings_of y) status unread left before after) (sym is) (end, (answered, done))
+    → DeliversStream meaning s end unread left before after → Done kinds meaning (settings_of x) status unread left before after
+delivered_done kinds meaning x s end status unread left before after is answered done =
+    subst (λ y. Done kinds meaning (settings_of y) status unread left before after) (sym is) (end, (answered, done))
 
-pub delivered_halted : (meaning : Meanings) (x : Piped) (s : DeliverSettings) (unread left before after : Option (List ℕ))
+pub delivered_halted : (kinds : AppKinds) (meaning : Meanings) (x : Piped) (s : DeliverSettings) (unread left before after : Option (List ℕ))
     → x ≡ piped.Deliver s
-    → DeliversStreamSome meaning s unread left before after → Halted meaning (settings_of x) unread left before after
-delivered_halted meaning x s unread left before after is some = subst (λ y. Halted meaning (settings_of y) unread left before after)
+    → DeliversStreamSome meaning s unread left before after → Halted kinds meaning (settings_of x) unread left before after
+delivered_halted kinds meaning x s unread left before after is some = subst (λ y. Halted kinds meaning (settings_of y) unread left before after)
     (sym is) some
 
 -- a text was played
-pub played_done : (meaning : Meanings) (x : Piped) (s : SimulateSettings) (end : TextEnd) (status : ℕ)
+pub played_done : (kinds : AppKinds) (meaning : Meanings) (x : Piped) (s : SimulateSettings) (end : TextEnd) (status : ℕ)
     (unread left before after : Option (List ℕ))
     → x ≡ piped.Simulate s → status ≡ status_of_text end
-    → PlaysText meaning s end unread left before after → Done meaning (settings_of x) status unread left before after
-played_done meaning x s end status unread left before after is answered done =
-    subst (λ y. Done meaning (settings_of y) status unread left before after) (sym is) (end, (answered, done))
+    → PlaysText kinds meaning s end unread left before after → Done kinds meaning (settings_of x) status unread left before after
+played_done kinds meaning x s end status unread left before after is answered done =
+    subst (λ y. Done kinds meaning (settings_of y) status unread left before after) (sym is) (end, (answered, done))
 
-pub played_halted : (meaning : Meanings) (x : Piped) (s : SimulateSettings) (unread left before after : Option (List ℕ))
+pub played_halted : (kinds : AppKinds) (meaning : Meanings) (x : Piped) (s : SimulateSettings) (unread left before after : Option (List ℕ))
     → x ≡ piped.Simulate s
-    → PlaysTextSome meaning s unread left before after → Halted meaning (settings_of x) unread left before after
-played_halted meaning x s unread left before after is some = subst (λ y. Halted meaning (settings_of y) unread left before after)
+    → PlaysTextSome kinds meaning s unread left before after → Halted kinds meaning (settings_of x) unread left before after
+played_halted kinds meaning x s unread left before after is some = subst (λ y. Halted kinds meaning (settings_of y) unread left before after)
     (sym is) some
 
 -- histories were audited
-pub audited_done : (meaning : Meanings) → {E : Type 0} (x : Piped) (s : AuditSettings) (r : Result Conclusion E)
+pub audited_done : (kinds : AppKinds) (meaning : Meanings) → {E : Type 0} (x : Piped) (s : AuditSettings) (r : Result Conclusion E)
     (unread left before after : Option (List ℕ))
     → x ≡ piped.Audit s
     → MatchResult r (λ ending. Audits meaning s ending.status unread left before after) (λ _. AuditsSome meaning s unread left before after)
-    → MatchResult r (λ ending. Done meaning (settings_of x) ending.status unread left before after)
-    (λ _. Halted meaning (settings_of x) unread left before after)
-audited_done meaning x s r unread left before after is done =
-    subst (λ y. MatchResult r (λ ending. Done meaning (settings_of y) ending.status unread left before after)
-    (λ _. Halted meaning (settings_of y) unread left before after)) (sym is) done
+    → MatchResult r (λ ending. Done kinds meaning (settings_of x) ending.status unread left before after)
+    (λ _. Halted kinds meaning (settings_of x) unread left before after)
+audited_done kinds meaning x s r unread left before after is done =
+    subst (λ y. MatchResult r (λ ending. Done kinds meaning (settings_of y) ending.status unread left before after)
+    (λ _. Halted kinds meaning (settings_of y) unread left before after)) (sym is) done
 
 pub audit_explains : {E : Type 0} (x : Piped) (s : AuditSettings) (r : Result Conclusion E) → x ≡ piped.Audit s
     → IfOk r (λ ending. (ending.explanation ≡ None) ⊎ (ending.status ≡ 1)) → IfOk r (ExplainsHistories (settings_of x))
@@ -109,15 +111,15 @@ audit_explains x s (Ok ending) is (inr one) = inr (one, subst (λ y. FollowsHist
 audit_explains x s (Err fault) is explains = tt
 
 -- histories were drawn
-pub drawn_done : (meaning : Meanings) → {E : Type 0} (x : Piped) (s : DrawSettings) (r : Result Conclusion E)
+pub drawn_done : (kinds : AppKinds) (meaning : Meanings) → {E : Type 0} (x : Piped) (s : DrawSettings) (r : Result Conclusion E)
     (unread left before after : Option (List ℕ))
     → x ≡ piped.Draw s
     → MatchResult r (λ ending. Draws meaning s ending.status unread left before after) (λ _. DrawsSome meaning s unread left before after)
-    → MatchResult r (λ ending. Done meaning (settings_of x) ending.status unread left before after)
-    (λ _. Halted meaning (settings_of x) unread left before after)
-drawn_done meaning x s r unread left before after is done =
-    subst (λ y. MatchResult r (λ ending. Done meaning (settings_of y) ending.status unread left before after)
-    (λ _. Halted meaning (settings_of y) unread left before after)) (sym is) done
+    → MatchResult r (λ ending. Done kinds meaning (settings_of x) ending.status unread left before after)
+    (λ _. Halted kinds meaning (settings_of x) unread left before after)
+drawn_done kinds meaning x s r unread left before after is done =
+    subst (λ y. MatchResult r (λ ending. Done kinds meaning (settings_of y) ending.status unread left before after)
+    (λ _. Halted kinds meaning (settings_of y) unread left before after)) (sym is) done
 
 pub draw_explains : {E : Type 0} (x : Piped) (s : DrawSettings) (r : Result Conclusion E) → x ≡ piped.Draw s
     → IfOk r (λ ending. (ending.explanation ≡ None) ⊎ (ending.status ≡ 1)) → IfOk r (ExplainsHistories (settings_of x))
@@ -136,32 +138,32 @@ responds_kept P unread left before mid after done keeps = record {
   written = Appends-kept before mid after done.text done.written keeps;
 }
 
-pub done_flushed : (meaning : Meanings) (x : Piped) (status : ℕ) (unread left before mid after : Option (List ℕ))
-    → Done meaning (settings_of x) status unread left before mid → Keeps mid after
-    → Done meaning (settings_of x) status unread left before after
-done_flushed meaning (piped.Sign s) status unread left before mid after (is, done) keeps =
+pub done_flushed : (kinds : AppKinds) (meaning : Meanings) (x : Piped) (status : ℕ) (unread left before mid after : Option (List ℕ))
+    → Done kinds meaning (settings_of x) status unread left before mid → Keeps mid after
+    → Done kinds meaning (settings_of x) status unread left before after
+done_flushed kinds meaning (piped.Sign s) status unread left before mid after (is, done) keeps =
     (is, responds_kept _ unread left before mid after done keeps)
-done_flushed meaning (piped.Deliver s) status unread left before mid after (end, (is, (to_end, done))) keeps =
+done_flushed kinds meaning (piped.Deliver s) status unread left before mid after (end, (is, (to_end, done))) keeps =
     (end, (is, (to_end, responds_kept _ unread left before mid after done keeps)))
-done_flushed meaning (piped.Simulate s) status unread left before mid after (end, (is, done)) keeps =
+done_flushed kinds meaning (piped.Simulate s) status unread left before mid after (end, (is, done)) keeps =
     (end, (is, responds_kept _ unread left before mid after done keeps))
-done_flushed meaning (piped.Audit s) status unread left before mid after (to_end, done) keeps =
+done_flushed kinds meaning (piped.Audit s) status unread left before mid after (to_end, done) keeps =
     (to_end, responds_kept _ unread left before mid after done keeps)
-done_flushed meaning (piped.Draw s) status unread left before mid after (to_end, done) keeps =
+done_flushed kinds meaning (piped.Draw s) status unread left before mid after (to_end, done) keeps =
     (to_end, responds_kept _ unread left before mid after done keeps)
 
 -- all was written, and then a flush failed
-pub done_halted : (meaning : Meanings) (x : Piped) (status : ℕ) (unread left before mid after : Option (List ℕ))
-    → Done meaning (settings_of x) status unread left before mid → Keeps mid after → Halted meaning (settings_of x) unread left before after
-done_halted meaning (piped.Sign s) status unread left before mid after (is, done) keeps =
+pub done_halted : (kinds : AppKinds) (meaning : Meanings) (x : Piped) (status : ℕ) (unread left before mid after : Option (List ℕ))
+    → Done kinds meaning (settings_of x) status unread left before mid → Keeps mid after → Halted kinds meaning (settings_of x) unread left before after
+done_halted kinds meaning (piped.Sign s) status unread left before mid after (is, done) keeps =
     responds_some _ _ unread left before mid after (λ input text does. does) done keeps
-done_halted meaning (piped.Deliver s) status unread left before mid after (end, (is, (to_end, done))) keeps =
+done_halted kinds meaning (piped.Deliver s) status unread left before mid after (end, (is, (to_end, done))) keeps =
     responds_some _ _ unread left before mid after (λ input text does. inr (end, does)) done keeps
-done_halted meaning (piped.Simulate s) status unread left before mid after (end, (is, done)) keeps =
+done_halted kinds meaning (piped.Simulate s) status unread left before mid after (end, (is, done)) keeps =
     responds_some _ _ unread left before mid after (λ input text does. (does.1.0, inr (end, does.1.1))) done keeps
-done_halted meaning (piped.Audit s) status unread left before mid after (to_end, done) keeps =
+done_halted kinds meaning (piped.Audit s) status unread left before mid after (to_end, done) keeps =
     responds_some _ _ unread left before mid after (λ input text does. inr (to_end, (status, does))) done keeps
-done_halted meaning (piped.Draw s) status unread left before mid after (to_end, done) keeps =
+done_halted kinds meaning (piped.Draw s) status unread left before mid after (to_end, done) keeps =
     responds_some _ _ unread left before mid after (λ input text does. inr (to_end, (status, does))) done keeps
 
 -- a status of what was done is 0 or 1
@@ -174,79 +176,79 @@ text_small : (end : TextEnd) → status_of_text end ≤ 1
 text_small scenario.Whole = omega arith
 text_small (scenario.BadLine n) = omega arith
 
-done_small : (meaning : Meanings) (x : Settings) (status : ℕ) (unread left before after : Option (List ℕ))
-    → Done meaning x status unread left before after → status ≤ 1
-done_small meaning (Sign s) status unread left before after (is, done) = omega (arith, is)
-done_small meaning (Deliver s) status unread left before after (end, (is, done)) = omega (arith, is, stream_small end)
-done_small meaning (Simulate s) status unread left before after (end, (is, done)) = omega (arith, is, text_small end)
-done_small meaning (Audit s) status unread left before after
+done_small : (kinds : AppKinds) (meaning : Meanings) (x : Settings) (status : ℕ) (unread left before after : Option (List ℕ))
+    → Done kinds meaning x status unread left before after → status ≤ 1
+done_small kinds meaning (Sign s) status unread left before after (is, done) = omega (arith, is)
+done_small kinds meaning (Deliver s) status unread left before after (end, (is, done)) = omega (arith, is, stream_small end)
+done_small kinds meaning (Simulate s) status unread left before after (end, (is, done)) = omega (arith, is, text_small end)
+done_small kinds meaning (Audit s) status unread left before after
     (to_end, done) = audited_small meaning s done.input status done.text done.goes_with
-done_small meaning (Draw s) status unread left before after (to_end, done) = drawn_small meaning s done.input status done.text
+done_small kinds meaning (Draw s) status unread left before after (to_end, done) = drawn_small meaning s done.input status done.text
     done.goes_with
-done_small meaning (Cluster s) status unread left before after done = absurd done
-done_small meaning (Serve s) status unread left before after done = absurd done
+done_small kinds meaning (Cluster s) status unread left before after done = absurd done
+done_small kinds meaning (Serve s) status unread left before after done = absurd done
 
 -- what was done for settings, and the status of it
-abbrev pub Settled : Meanings → Settings → ℕ → Option (List ℕ) → Option (List ℕ) → Option (List ℕ) → Option (List ℕ) → Type 0 → Type 0
-Settled meaning s status unread left before after Quiet =
-    (Quiet × Done meaning s status unread left before after) ⊎ ((status ≡ 3) × Halted meaning s unread left before after)
+abbrev pub Settled : AppKinds → Meanings → Settings → ℕ → Option (List ℕ) → Option (List ℕ) → Option (List ℕ) → Option (List ℕ) → Type 0 → Type 0
+Settled kinds meaning s status unread left before after Quiet =
+    (Quiet × Done kinds meaning s status unread left before after) ⊎ ((status ≡ 3) × Halted kinds meaning s unread left before after)
 
 -- the status of what was done
-pub settled : (meaning : Meanings) → {E : Type 0} (s x : Settings) (r : Result Conclusion E) (status : ℕ)
+pub settled : (kinds : AppKinds) (meaning : Meanings) → {E : Type 0} (s x : Settings) (r : Result Conclusion E) (status : ℕ)
     (unread left before after mute told : Option (List ℕ))
     → s ≡ x
-    → MatchResult r (λ ending. Done meaning s ending.status unread left before after) (λ _. Halted meaning s unread left before after)
+    → MatchResult r (λ ending. Done kinds meaning s ending.status unread left before after) (λ _. Halted kinds meaning s unread left before after)
     → IfOk r (ExplainsHistories s)
     → MatchResult r (λ ending. (status ≡ ending.status) × (ending.explanation ≡ None → Keeps mute told)) (λ _. status ≡ 3)
-    → Settled meaning x status unread left before after (IsQuiet x status mute told)
-settled meaning s x (Ok ending) status unread left before after mute told same done explains is =
+    → Settled kinds meaning x status unread left before after (IsQuiet x status mute told)
+settled kinds meaning s x (Ok ending) status unread left before after mute told same done explains is =
     inl (
       quiet explains,
-      subst (λ y. Done meaning y status unread left before after) same
-          (subst (λ n. Done meaning s n unread left before after) (sym is.0) done),
+      subst (λ y. Done kinds meaning y status unread left before after) same
+          (subst (λ n. Done kinds meaning s n unread left before after) (sym is.0) done),
     )
   where
     quiet : ExplainsHistories s ending → IsQuiet x status mute told
     quiet (inl none) = inl (is.1 none)
     quiet (inr (one, follows)) = inr (is.0 ∙ one, subst FollowsHistories same follows)
-settled meaning s x (Err e) status unread left before after mute told same halted explains is =
-    inr (is, subst (λ y. Halted meaning y unread left before after) same halted)
+settled kinds meaning s x (Err e) status unread left before after mute told same halted explains is =
+    inr (is, subst (λ y. Halted kinds meaning y unread left before after) same halted)
 
-module _ (meaning : Meanings) (words : List (List ℕ)) (s : Settings) (set : IsSet meaning words s) (taken : kinds_of words ≡ [])
+module _ (program : ProgramWords) (meaning : Meanings) (words : List (List ℕ)) (s : Settings) (set : IsSet program meaning words s) (taken : kinds_of program words ≡ [])
     (status : ℕ)
     (unread left before after : Option (List ℕ)) where
-  pub settled_finishes : (Q : Type 0) → Settled meaning s status unread left before after Q → (status ≡ 0) ⊎ (status ≡ 1)
-      → Performs meaning words status unread left before after
+  pub settled_finishes : (Q : Type 0) → Settled program.kinds meaning s status unread left before after Q → (status ≡ 0) ⊎ (status ≡ 1)
+      → Performs program meaning words status unread left before after
   settled_finishes Q (inl (quiet, done)) small = record { settings = s; set = set; taken = taken; done = done }
   settled_finishes Q (inr (is, halted)) (inl zero) = absurd (omega (arith, zero, is))
   settled_finishes Q (inr (is, halted)) (inr one) = absurd (omega (arith, one, is))
 
-  pub settled_quiet : (mute told : Option (List ℕ)) → Settled meaning s status unread left before after (IsQuiet s status mute told)
+  pub settled_quiet : (mute told : Option (List ℕ)) → Settled program.kinds meaning s status unread left before after (IsQuiet s status mute told)
       → status ≡ 0
       → Keeps mute told
   settled_quiet mute told (inl (inl keeps, done)) zero = keeps
   settled_quiet mute told (inl (inr (one, follows), done)) zero = absurd (omega (arith, zero, one))
   settled_quiet mute told (inr (is, halted)) zero = absurd (omega (arith, zero, is))
 
-  pub settled_explains : (mute told : Option (List ℕ)) → Settled meaning s status unread left before after (IsQuiet s status mute told)
-      → status ≡ 1 → Keeps mute told ⊎ AsksForHistories meaning words
+  pub settled_explains : (mute told : Option (List ℕ)) → Settled program.kinds meaning s status unread left before after (IsQuiet s status mute told)
+      → status ≡ 1 → Keeps mute told ⊎ AsksForHistories program meaning words
   settled_explains mute told (inl (inl keeps, done)) one = inl keeps
   settled_explains mute told (inl (inr (is, follows), done)) one = inr (s, (set, follows))
   settled_explains mute told (inr (is, halted)) one = absurd (omega (arith, one, is))
 
-  pub settled_refuses : (Q P : Type 0) → Settled meaning s status unread left before after Q → status ≡ 2 → P
+  pub settled_refuses : (Q P : Type 0) → Settled program.kinds meaning s status unread left before after Q → status ≡ 2 → P
   settled_refuses Q P (inl (quiet, done)) two = let small =
-      done_small meaning s status unread left before after done in absurd (omega (arith, small, two))
+      done_small program.kinds meaning s status unread left before after done in absurd (omega (arith, small, two))
   settled_refuses Q P (inr (is, halted)) two = absurd (omega (arith, two, is))
 
-  pub settled_stops : (Q : Type 0) → Settled meaning s status unread left before after Q → status ≡ 3
-      → StartsRun meaning words unread left before after
+  pub settled_stops : (Q : Type 0) → Settled program.kinds meaning s status unread left before after Q → status ≡ 3
+      → StartsRun program meaning words unread left before after
   settled_stops Q (inl (quiet, done)) three = let small =
-      done_small meaning s status unread left before after done in absurd (omega (arith, small, three))
+      done_small program.kinds meaning s status unread left before after done in absurd (omega (arith, small, three))
   settled_stops Q (inr (is, halted)) three = record { settings = s; set = set; taken = taken; halted = halted }
 
-  pub settled_known : (Q : Type 0) → Settled meaning s status unread left before after Q → status ≤ 3
-  settled_known Q (inl (quiet, done)) = let small = done_small meaning s status unread left before after done in omega (arith, small)
+  pub settled_known : (Q : Type 0) → Settled program.kinds meaning s status unread left before after Q → status ≤ 3
+  settled_known Q (inl (quiet, done)) = let small = done_small program.kinds meaning s status unread left before after done in omega (arith, small)
   settled_known Q (inr (is, halted)) = omega (arith, is)
 
 -- what was printed of words that set nothing: the help or the version, or what is wrong with them
@@ -266,7 +268,7 @@ asks_no_memory (fault.TooFew replicas faults) asks wants = asks
 asks_no_memory (fault.Spelling option why) asks wants = asks
 asks_no_memory (fault.NoTransaction option word) asks wants = asks
 asks_no_memory (fault.Rejected option code word) asks wants = asks
-asks_no_memory (fault.NamedInput input word) asks wants = asks
+asks_no_memory (fault.NamedInput name input word) asks wants = asks
 asks_no_memory (fault.Receipt word) asks wants = asks
 asks_no_memory (fault.What word) asks wants = asks
 asks_no_memory (fault.Level word) asks wants = asks
@@ -274,10 +276,10 @@ asks_no_memory (fault.Missing option) asks wants = asks
 asks_no_memory fault.NoSubcommand asks wants = asks
 asks_no_memory fault.NoMemory asks wants = asks
 
-module _ (meaning : Meanings) (words : List (List ℕ)) (f : UsageFault) (status : ℕ) (Q K : Type 0) (right : IsRightFault meaning words f)
-    (refused : (WantsMemory f → ⊥) → IsRefused meaning words) where
-  pub told_finishes : HelpOrFault f status Q K → (status ≡ 0) ⊎ (status ≡ 1) → IsRefused meaning words × (AskForHelp words × (status ≡ 0))
-  told_finishes (inl (asks, inl (zero, quiet))) small = (refused (asks_no_memory f asks), (asked meaning words f right asks, zero))
+module _ (program : ProgramWords) (meaning : Meanings) (words : List (List ℕ)) (f : UsageFault) (status : ℕ) (Q K : Type 0) (right : IsRightFault program meaning words f)
+    (refused : (WantsMemory f → ⊥) → IsRefused program meaning words) where
+  pub told_finishes : HelpOrFault f status Q K → (status ≡ 0) ⊎ (status ≡ 1) → IsRefused program meaning words × (AskForHelp program words × (status ≡ 0))
+  told_finishes (inl (asks, inl (zero, quiet))) small = (refused (asks_no_memory f asks), (asked program meaning words f right asks, zero))
   told_finishes (inl (asks, inr three)) (inl zero) = absurd (omega (arith, zero, three))
   told_finishes (inl (asks, inr three)) (inr one) = absurd (omega (arith, one, three))
   told_finishes (inr (kept, inl (two, enough))) (inl zero) = absurd (omega (arith, zero, two))
@@ -294,14 +296,14 @@ module _ (meaning : Meanings) (words : List (List ℕ)) (f : UsageFault) (status
   told_quiet (inr (kept, inr three)) (inl zero) = absurd (omega (arith, zero, three))
   told_quiet (inr (kept, inr three)) (inr one) = absurd (omega (arith, one, three))
 
-  pub told_refuses : HelpOrFault f status Q K → status ≡ 2 → IsRefused meaning words × ((AskForHelpAlone words → ⊥) × K)
+  pub told_refuses : HelpOrFault f status Q K → status ≡ 2 → IsRefused program meaning words × ((AskForHelpAlone program words → ⊥) × K)
   told_refuses (inl (asks, inl (zero, quiet))) is = absurd (omega (arith, is, zero))
   told_refuses (inl (asks, inr three)) is = absurd (omega (arith, is, three))
-  told_refuses (inr ((other, kept), inl (two, enough))) is = (refused enough, (not_alone meaning words f right other enough, kept))
+  told_refuses (inr ((other, kept), inl (two, enough))) is = (refused enough, (not_alone program meaning words f right other enough, kept))
   told_refuses (inr (kept, inr three)) is = absurd (omega (arith, is, three))
 
-  pub told_stops : HelpOrFault f status Q K → status ≡ 3 → K ⊎ (IsRefused meaning words × AskForHelp words)
-  told_stops (inl (asks, told)) is = inr (refused (asks_no_memory f asks), asked meaning words f right asks)
+  pub told_stops : HelpOrFault f status Q K → status ≡ 3 → K ⊎ (IsRefused program meaning words × AskForHelp program words)
+  told_stops (inl (asks, told)) is = inr (refused (asks_no_memory f asks), asked program meaning words f right asks)
   told_stops (inr ((other, kept), told)) is = inl kept
 
   pub told_known : HelpOrFault f status Q K → status ≤ 3

@@ -1,4 +1,5 @@
 -- From the commands that are played to what `abft simulate` prints.
+use Rattle.ledger_model.specs.declared.config.AppKinds.{AppKinds}
 use Rattle.ledger_model.specs.Meanings.{Meanings}
 use Rattle.std.proofs.Common.{◌≡◌, ℕ, ◌≤◌, Bool, true, false, not, List, [], ◌++◌, length, take, refl, sym, subst, ◌∙◌, inl, inr}
 use Rattle.std.proofs.Common.{append-nil, arith, lit≤}
@@ -112,30 +113,30 @@ module _ (meaning : Meanings) (s : SimulateSettings) (p : Plan) (config : Config
   played_nothing before = played_part (simulation_at_start meaning s.seed config p) before before refl
       (written_nothing meaning (not s.histories) (simulation_at_start meaning s.seed config p) p.commands before)
 
-module _ (meaning : Meanings) (s : SimulateSettings) (input : List ℕ) (unread left before after : Option (List ℕ))
+module _ (kinds : AppKinds) (meaning : Meanings) (s : SimulateSettings) (input : List ℕ) (unread left before after : Option (List ℕ))
     (read : Consumes unread left input)
     (in_time : IsReadInTime input) where
   -- the plan of the text was played
-  pub simulated : (p : Plan) → SpellsPlan input p → IsAtEnd left → PlayedWritten meaning s p before after
-      → PlaysText meaning s Whole unread left before after
+  pub simulated : (p : Plan) → SpellsPlan kinds input p → IsAtEnd left → PlayedWritten meaning s p before after
+      → PlaysText kinds meaning s Whole unread left before after
   simulated p spells to_end (text, (played, written)) =
       record { input = input; text = text; goes_with = (to_end, (in_time, (p, (spells, played)))); read = read; written = written }
 
   -- or begun
-  pub simulated_part : (p : Plan) → SpellsPlan input p → PlayedBegun meaning s p before after
-      → PlaysTextSome meaning s unread left before after
+  pub simulated_part : (p : Plan) → SpellsPlan kinds input p → PlayedBegun meaning s p before after
+      → PlaysTextSome kinds meaning s unread left before after
   simulated_part p spells (text, (inl some, written)) =
       record { input = input; text = text; goes_with = (in_time, inl (inr (p, (spells, some)))); read = read; written = written }
   simulated_part p spells (text, (inr played, written)) =
       record { input = input; text = text; goes_with = (in_time, inr (Whole, (p, (spells, played)))); read = read; written = written }
 
   -- its first bad line was printed
-  pub told_bad : (n : ℕ) → IsBadAt input n → IsAtEnd left ⊎ IsBadAnyway input n → Appends before after (bad_line n)
-      → PlaysText meaning s (BadLine n) unread left before after
+  pub told_bad : (n : ℕ) → IsBadAt kinds input n → IsAtEnd left ⊎ IsBadAnyway kinds input n → Appends before after (bad_line n)
+      → PlaysText kinds meaning s (BadLine n) unread left before after
   told_bad n bad shown written =
       record { input = input; text = bad_line n; goes_with = (shown, (in_time, (bad, refl))); read = read; written = written }
 
-  pub told_part : (n : ℕ) → IsBadAt input n → AppendsSome before after (bad_line n) → PlaysTextSome meaning s unread left before after
+  pub told_part : (n : ℕ) → IsBadAt kinds input n → AppendsSome before after (bad_line n) → PlaysTextSome kinds meaning s unread left before after
   told_part n bad written = record {
     input = input;
     text = bad_line n;
@@ -167,37 +168,37 @@ piece_in_time text piece n fits short =
     record { before = text; piece = take n piece; split = refl; fits = fits; short = omega (arith, short, length-take n piece) }
 
 -- a text that was read to its end, or is too large, has its first bad line there or anyway
-pub bad_shown : (text : List ℕ) (left : Option (List ℕ)) (n : ℕ) → IsAtEnd left ⊎ IsTooLarge text → IsBadAt text n
-    → IsAtEnd left ⊎ IsBadAnyway text n
-bad_shown text left n (inl to_end) bad = inl to_end
-bad_shown text left n (inr large) bad = inr (λ more. bad_anyway text more n large bad)
+pub bad_shown : (kinds : AppKinds) (text : List ℕ) (left : Option (List ℕ)) (n : ℕ) → IsAtEnd left ⊎ IsTooLarge text → IsBadAt kinds text n
+    → IsAtEnd left ⊎ IsBadAnyway kinds text n
+bad_shown kinds text left n (inl to_end) bad = inl to_end
+bad_shown kinds text left n (inr large) bad = inr (λ more. bad_anyway kinds text more n large bad)
 
 -- one that spells a plan was read to its end
-pub spelled_whole : (text : List ℕ) (left : Option (List ℕ)) (p : Plan) → IsAtEnd left ⊎ IsTooLarge text → SpellsPlan text p → IsAtEnd left
-spelled_whole text left p (inl to_end) spells = to_end
-spelled_whole text left p (inr large) spells = absurd (large_spells_none text p large spells)
+pub spelled_whole : (kinds : AppKinds) (text : List ℕ) (left : Option (List ℕ)) (p : Plan) → IsAtEnd left ⊎ IsTooLarge text → SpellsPlan kinds text p → IsAtEnd left
+spelled_whole kinds text left p (inl to_end) spells = to_end
+spelled_whole kinds text left p (inr large) spells = absurd (large_spells_none kinds text p large spells)
 
 -- what was read, where it is a scenario, and where it isn't
-pub scenario_read : (found : ScenarioInput) (scenario : Scenario) (unread left : Option (List ℕ)) → found ≡ input.Scenario scenario
-    → IsRead found unread left → IsRead (input.Scenario scenario) unread left
-scenario_read found scenario unread left is read = subst (λ f. IsRead f unread left) is read
+pub scenario_read : (kinds : AppKinds) (found : ScenarioInput) (scenario : Scenario) (unread left : Option (List ℕ)) → found ≡ input.Scenario scenario
+    → IsRead kinds found unread left → IsRead kinds (input.Scenario scenario) unread left
+scenario_read kinds found scenario unread left is read = subst (λ f. IsRead kinds f unread left) is read
 
-pub bad_read : (found : ScenarioInput) (n : ℕ) (unread left : Option (List ℕ)) → found ≡ input.BadLine n → IsRead found unread left
-    → IsRead (input.BadLine n) unread left
-bad_read found n unread left is read = subst (λ f. IsRead f unread left) is read
+pub bad_read : (kinds : AppKinds) (found : ScenarioInput) (n : ℕ) (unread left : Option (List ℕ)) → found ≡ input.BadLine n → IsRead kinds found unread left
+    → IsRead kinds (input.BadLine n) unread left
+bad_read kinds found n unread left is read = subst (λ f. IsRead kinds f unread left) is read
 
 -- nothing was written
-pub read_only : (meaning : Meanings) (s : SimulateSettings) (input : List ℕ) (unread left before : Option (List ℕ))
+pub read_only : (kinds : AppKinds) (meaning : Meanings) (s : SimulateSettings) (input : List ℕ) (unread left before : Option (List ℕ))
     → Consumes unread left input
-    → IsReadInTime input → PlaysTextSome meaning s unread left before before
-read_only meaning s input unread left before read in_time =
+    → IsReadInTime input → PlaysTextSome kinds meaning s unread left before before
+read_only kinds meaning s input unread left before read in_time =
     record { input = input; text = []; goes_with = (in_time, inl (inl refl)); read = read; written = nothing_some before [] }
 
 -- the first bad line has one number
-pub bad_at : (why : TextFault) (n : ℕ) (text : List ℕ) → why ≡ fault.BadLine n
-    → (why ≡ fault.NoMemory) ⊎ ((m : ℕ) × ((why ≡ fault.BadLine m) × IsBadAt text m)) → IsBadAt text n
-bad_at why n text is (inl none) = let no = sym is ∙ none in absurd cc
-bad_at why n text is (inr (m, (also, bad))) = let same : m ≡ n = one_number (sym also ∙ is) in subst (IsBadAt text) same bad
+pub bad_at : (kinds : AppKinds) (why : TextFault) (n : ℕ) (text : List ℕ) → why ≡ fault.BadLine n
+    → (why ≡ fault.NoMemory) ⊎ ((m : ℕ) × ((why ≡ fault.BadLine m) × IsBadAt kinds text m)) → IsBadAt kinds text n
+bad_at kinds why n text is (inl none) = let no = sym is ∙ none in absurd cc
+bad_at kinds why n text is (inr (m, (also, bad))) = let same : m ≡ n = one_number (sym also ∙ is) in subst (IsBadAt kinds text) same bad
   where
     one_number : fault.BadLine m ≡ fault.BadLine n → m ≡ n
     one_number e = cc

@@ -1,6 +1,6 @@
 -- What `abft audit` writes for the bytes that it reads.
 use Rattle.ledger_model.specs.Meanings.{Meanings}
-use Rattle.std.specs.Prelude.{◌≡◌, ℕ, Bool, true, false, List, ◌++◌, Option, Some, None, Result, Ok, Err}
+use Rattle.std.specs.Prelude.{◌≡◌, ℕ, Bool, false, List, ◌++◌, Option, Some, None, Result, Ok, Err}
 use Rattle.ledger_model.specs.declared.history.History.{History}
 use Rattle.ledger_model.specs.Values.{Value}
 use Rattle.cluster_setup.specs.Keys.{ring_of}

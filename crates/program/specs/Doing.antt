@@ -1,4 +1,6 @@
 -- What the program does for the words of the command line and the bytes that it reads.
+use Rattle.app_states.specs.ProgramWords.{ProgramWords}
+use Rattle.ledger_model.specs.declared.config.AppKinds.{AppKinds}
 use Rattle.ledger_model.specs.Meanings.{Meanings}
 use Rattle.std.specs.Prelude.{◌≡◌, ◌⊎◌, ℕ, List, [], Option, None, ⊤}
 use Rattle.std.specs.Io.KnownBytes.{Keeps}
@@ -6,7 +8,6 @@ use Rattle.ledger_model.specs.Spelling.{frame_bytes}
 use Rattle.cluster_setup.specs.declared.settings.Settings.{Settings}
 use Rattle.cluster_setup.specs.declared.settings.Settings.TheVariants as settings
 use Rattle.cluster_setup.specs.declared.sign_settings.SignSettings.{SignSettings}
-use Rattle.cluster_setup.specs.declared.audit_settings.AuditSettings.{AuditSettings}
 use Rattle.command_line.specs.Faults.{kinds_of}
 use Rattle.command_line.specs.Options.{IsSet}
 use Rattle.program.specs.Statements.{signed}
@@ -43,42 +44,42 @@ PrintsFrame s input text = (input ≡ []) × (text ≡ frame_bytes (signed s))
 -- the stream as far as its end or its first fault, and wrote a line for each frame. `abft simulate` read the text to
 -- its end and wrote what its scenario gives, or read it as far as its first bad line is certain. `abft audit` read all
 -- histories and wrote what it found, and `abft draw` wrote a picture of them.
-abbrev pub Done : Meanings → Settings → ℕ → Option (List ℕ) → Option (List ℕ) → Option (List ℕ) → Option (List ℕ) → Type 0
-Done meaning (settings.Sign s) status unread left before after = (status ≡ 0) × Responds (PrintsFrame s) unread left before after
-Done meaning (settings.Deliver s) status unread left before after =
+abbrev pub Done : AppKinds → Meanings → Settings → ℕ → Option (List ℕ) → Option (List ℕ) → Option (List ℕ) → Option (List ℕ) → Type 0
+Done kinds meaning (settings.Sign s) status unread left before after = (status ≡ 0) × Responds (PrintsFrame s) unread left before after
+Done kinds meaning (settings.Deliver s) status unread left before after =
     (end : StreamEnd) × ((status ≡ status_of_stream end) × DeliversStream meaning s end unread left before after)
-Done meaning (settings.Simulate s) status unread left before after =
-    (end : TextEnd) × ((status ≡ status_of_text end) × PlaysText meaning s end unread left before after)
-Done meaning (settings.Audit s) status unread left before after = Audits meaning s status unread left before after
-Done meaning (settings.Draw s) status unread left before after = Draws meaning s status unread left before after
-Done meaning (settings.Cluster s) status unread left before after = ⊥
-Done meaning (settings.Serve s) status unread left before after = ⊥
+Done kinds meaning (settings.Simulate s) status unread left before after =
+    (end : TextEnd) × ((status ≡ status_of_text end) × PlaysText kinds meaning s end unread left before after)
+Done kinds meaning (settings.Audit s) status unread left before after = Audits meaning s status unread left before after
+Done kinds meaning (settings.Draw s) status unread left before after = Draws meaning s status unread left before after
+Done kinds meaning (settings.Cluster s) status unread left before after = ⊥
+Done kinds meaning (settings.Serve s) status unread left before after = ⊥
 
 -- the settings were begun: part of the input was read, and a prefix of the text for it was written
-abbrev pub Halted : Meanings → Settings → Option (List ℕ) → Option (List ℕ) → Option (List ℕ) → Option (List ℕ) → Type 0
-Halted meaning (settings.Sign s) unread left before after = RespondsSome (PrintsFrame s) unread left before after
-Halted meaning (settings.Deliver s) unread left before after = DeliversStreamSome meaning s unread left before after
-Halted meaning (settings.Simulate s) unread left before after = PlaysTextSome meaning s unread left before after
-Halted meaning (settings.Audit s) unread left before after = AuditsSome meaning s unread left before after
-Halted meaning (settings.Draw s) unread left before after = DrawsSome meaning s unread left before after
-Halted meaning (settings.Cluster s) unread left before after = ⊥
-Halted meaning (settings.Serve s) unread left before after = ⊥
+abbrev pub Halted : AppKinds → Meanings → Settings → Option (List ℕ) → Option (List ℕ) → Option (List ℕ) → Option (List ℕ) → Type 0
+Halted kinds meaning (settings.Sign s) unread left before after = RespondsSome (PrintsFrame s) unread left before after
+Halted kinds meaning (settings.Deliver s) unread left before after = DeliversStreamSome meaning s unread left before after
+Halted kinds meaning (settings.Simulate s) unread left before after = PlaysTextSome kinds meaning s unread left before after
+Halted kinds meaning (settings.Audit s) unread left before after = AuditsSome meaning s unread left before after
+Halted kinds meaning (settings.Draw s) unread left before after = DrawsSome meaning s unread left before after
+Halted kinds meaning (settings.Cluster s) unread left before after = ⊥
+Halted kinds meaning (settings.Serve s) unread left before after = ⊥
 
 -- settings that the words ask for were done, with this status
-pub record Performs (meaning : Meanings) (words : List (List ℕ)) (status : ℕ) (unread left before after : Option (List ℕ)) : Type 0 where
+pub record Performs (program : ProgramWords) (meaning : Meanings) (words : List (List ℕ)) (status : ℕ) (unread left before after : Option (List ℕ)) : Type 0 where
   pub settings : Settings
-  pub set : IsSet meaning words settings
+  pub set : IsSet program meaning words settings
   -- the words have no fault, and ask for neither the help nor the version
-  pub taken : kinds_of words ≡ []
-  pub done : Done meaning settings status unread left before after
+  pub taken : kinds_of program words ≡ []
+  pub done : Done program.kinds meaning settings status unread left before after
 
 -- settings that the words ask for were begun
-pub record StartsRun (meaning : Meanings) (words : List (List ℕ)) (unread left before after : Option (List ℕ)) : Type 0 where
+pub record StartsRun (program : ProgramWords) (meaning : Meanings) (words : List (List ℕ)) (unread left before after : Option (List ℕ)) : Type 0 where
   pub settings : Settings
-  pub set : IsSet meaning words settings
+  pub set : IsSet program meaning words settings
   -- the words have no fault, and ask for neither the help nor the version
-  pub taken : kinds_of words ≡ []
-  pub halted : Halted meaning settings unread left before after
+  pub taken : kinds_of program words ≡ []
+  pub halted : Halted program.kinds meaning settings unread left before after
 
 -- the exit status satisfies this, if the program ended
 abbrev pub IfEnded : Outcome → (ℕ → Type 0) → Type 0
@@ -113,8 +114,8 @@ FollowsHistories (settings.Draw s) = ⊤
 FollowsHistories _ = ⊥
 
 -- the words ask for an audit or for a picture
-abbrev pub AsksForHistories : Meanings → List (List ℕ) → Type 0
-AsksForHistories meaning words = (s : Settings) × (IsSet meaning words s × FollowsHistories s)
+abbrev pub AsksForHistories : ProgramWords → Meanings → List (List ℕ) → Type 0
+AsksForHistories program meaning words = (s : Settings) × (IsSet program meaning words s × FollowsHistories s)
 
 -- nothing is explained, but where histories were followed and the status is 1
 abbrev pub ExplainsHistories : Settings → Conclusion → Type 0

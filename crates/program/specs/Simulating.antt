@@ -1,4 +1,5 @@
 -- What `abft simulate` writes for a scenario.
+use Rattle.ledger_model.specs.declared.config.AppKinds.{AppKinds}
 use Rattle.ledger_model.specs.Meanings.{Meanings}
 use Rattle.std.specs.Prelude.{◌≡◌, ◌⊎◌, ℕ, ◌≤◌, Bool, not, List, [], ◌∷◌, ◌++◌, length, codes, decimal, Option, Result, MatchResult}
 use Rattle.std.specs.Prelude.{unwrap_or, if◌then◌else◌}
@@ -85,17 +86,17 @@ abbrev pub bad_line : ℕ → List ℕ
 bad_line n = codes "line " ++ decimal n ++ codes " bad" ++ 10 ∷ []
 
 -- what is printed for an input: the text of the plan that it encodes, or its first bad line
-abbrev pub Simulates : Meanings → SimulateSettings → List ℕ → TextEnd → List ℕ → Type 0
-Simulates meaning s input Whole text = (p : Plan) × (SpellsPlan input p × Played meaning s p text)
-Simulates meaning s input (BadLine n) text = IsBadAt input n × (text ≡ bad_line n)
+abbrev pub Simulates : AppKinds → Meanings → SimulateSettings → List ℕ → TextEnd → List ℕ → Type 0
+Simulates kinds meaning s input Whole text = (p : Plan) × (SpellsPlan kinds input p × Played meaning s p text)
+Simulates kinds meaning s input (BadLine n) text = IsBadAt kinds input n × (text ≡ bad_line n)
 
 -- a part of what is printed for an input: nothing, or the lines of the first commands
-abbrev pub SimulatesSome : Meanings → SimulateSettings → List ℕ → List ℕ → Type 0
-SimulatesSome meaning s input text = (text ≡ []) ⊎ ((p : Plan) × (SpellsPlan input p × PlayedSome meaning s p text))
+abbrev pub SimulatesSome : AppKinds → Meanings → SimulateSettings → List ℕ → List ℕ → Type 0
+SimulatesSome kinds meaning s input text = (text ≡ []) ⊎ ((p : Plan) × (SpellsPlan kinds input p × PlayedSome meaning s p text))
 
 -- line n is the first bad one, however the text continues
-abbrev pub IsBadAnyway : List ℕ → ℕ → Type 0
-IsBadAnyway input n = (more : List ℕ) → IsBadAt (input ++ more) n
+abbrev pub IsBadAnyway : AppKinds → List ℕ → ℕ → Type 0
+IsBadAnyway kinds input n = (more : List ℕ) → IsBadAt kinds (input ++ more) n
 
 -- at most one piece of 8,192 bytes was read after the text had become too large for a scenario
 pub record IsReadInTime (text : List ℕ) : Type 0 where
@@ -106,32 +107,32 @@ pub record IsReadInTime (text : List ℕ) : Type 0 where
   pub short : length piece ≤ 8192
 
 -- for a scenario the whole input was read; for a bad line, the rest may be unread if the line is bad however the text continues
-abbrev pub IsReadFor : TextEnd → List ℕ → Option (List ℕ) → Type 0
-IsReadFor Whole input left = IsAtEnd left
-IsReadFor (BadLine n) input left = IsAtEnd left ⊎ IsBadAnyway input n
+abbrev pub IsReadFor : AppKinds → TextEnd → List ℕ → Option (List ℕ) → Type 0
+IsReadFor kinds Whole input left = IsAtEnd left
+IsReadFor kinds (BadLine n) input left = IsAtEnd left ⊎ IsBadAnyway kinds input n
 
 -- a text was read as far as its result needs, and what is printed for it was written
-abbrev pub PlaysText : Meanings → SimulateSettings → TextEnd → Option (List ℕ) → Option (List ℕ) → Option (List ℕ) → Option (List ℕ)
+abbrev pub PlaysText : AppKinds → Meanings → SimulateSettings → TextEnd → Option (List ℕ) → Option (List ℕ) → Option (List ℕ) → Option (List ℕ)
     → Type 0
-PlaysText meaning s end unread left before after =
-    Responds (λ input text. IsReadFor end input left × (IsReadInTime input × Simulates meaning s input end text)) unread left before after
+PlaysText kinds meaning s end unread left before after =
+    Responds (λ input text. IsReadFor kinds end input left × (IsReadInTime input × Simulates kinds meaning s input end text)) unread left before after
 
 -- part of the input was read, and a prefix of what is printed for it was written
-abbrev pub PlaysTextSome : Meanings → SimulateSettings → Option (List ℕ) → Option (List ℕ) → Option (List ℕ) → Option (List ℕ) → Type 0
-PlaysTextSome meaning s unread left before after =
-    RespondsSome (λ input text. IsReadInTime input × (SimulatesSome meaning s input text
-    ⊎ ((end : TextEnd) × Simulates meaning s input end text))) unread
+abbrev pub PlaysTextSome : AppKinds → Meanings → SimulateSettings → Option (List ℕ) → Option (List ℕ) → Option (List ℕ) → Option (List ℕ) → Type 0
+PlaysTextSome kinds meaning s unread left before after =
+    RespondsSome (λ input text. IsReadInTime input × (SimulatesSome kinds meaning s input text
+    ⊎ ((end : TextEnd) × Simulates kinds meaning s input end text))) unread
     left before after
 
 -- ---- the results of calls
 
 -- what was read of the stream is a scenario, or its first bad line has this number
-abbrev pub IsRead : ScenarioInput → Option (List ℕ) → Option (List ℕ) → Type 0
-IsRead (input.Scenario scenario) unread left =
+abbrev pub IsRead : AppKinds → ScenarioInput → Option (List ℕ) → Option (List ℕ) → Type 0
+IsRead kinds (input.Scenario scenario) unread left =
     (text : List ℕ) × (Consumes unread left text
-    × (IsReadInTime text × (IsAtEnd left × (SpellsPlan text (plan_of scenario) × IsPlan (plan_of scenario)))))
-IsRead (input.BadLine n) unread left =
-    (text : List ℕ) × (Consumes unread left text × (IsReadInTime text × ((IsAtEnd left ⊎ IsBadAnyway text n) × IsBadAt text n)))
+    × (IsReadInTime text × (IsAtEnd left × (SpellsPlan kinds text (plan_of scenario) × IsPlan kinds (plan_of scenario)))))
+IsRead kinds (input.BadLine n) unread left =
+    (text : List ℕ) × (Consumes unread left text × (IsReadInTime text × ((IsAtEnd left ⊎ IsBadAnyway kinds text n) × IsBadAt kinds text n)))
 
 -- the commands were played, and their lines were written if they are wanted
 abbrev pub PlaysWritten : Meanings → Bool → SimulationView → List Command → SimulationView → Option (List ℕ) → Option (List ℕ) → Type 0

@@ -9,7 +9,7 @@ ghost use Rattle.program.specs.Auditing.{Audited, Audits, AuditsSome, audit_stat
 use crate::history_input::{print_bad_history, read_history_input};
 use crate::outcome::Conclusion;
 use crate::status::BAD_INPUT;
-use app_kinds::Opening;
+use app_states::Opening;
 use byte_streams::{ProgramFault, write_output};
 use cluster_setup::{AuditSettings, ClusterSeed, all_keys};
 use history_audit::{AuditFault, are_of_a_quorum, audited};

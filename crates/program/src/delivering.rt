@@ -8,7 +8,7 @@ use crate::line_printing::print_end;
 use crate::replica::{new_replica, start};
 use crate::stream_end::StreamEnd;
 use abci::Application;
-use app_kinds::Opening;
+use app_states::Opening;
 use byte_streams::ProgramFault;
 use cluster_setup::DeliverSettings;
 use locked_replica::State;

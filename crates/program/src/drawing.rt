@@ -9,7 +9,7 @@ ghost use Rattle.program.specs.Drawing.{Drawn, Draws, DrawsSome, part_of, pictur
 use crate::history_input::{print_bad_history, read_history_input};
 use crate::outcome::Conclusion;
 use crate::status::{BAD_INPUT, DONE};
-use app_kinds::{Opening, new_apps};
+use app_states::{Opening, new_apps};
 use byte_streams::{ProgramFault, new_random_key, write_output};
 use cluster_setup::{DrawSettings, all_keys};
 use history_audit::AuditFault;

@@ -7,7 +7,7 @@ ghost use Rattle.program.specs.Simulating.{simulation_at_start};
 
 use crate::replica::new_keys;
 use adversary_net::{WorldFault, count_correct};
-use app_kinds::{Opening, new_apps};
+use app_states::{Opening, new_apps};
 use byte_streams::ProgramFault;
 use cluster_setup::{ClusterSeed, SimulateSettings};
 use scenario_texts::Scenario;
@@ -39,7 +39,7 @@ pub(crate) fn new_simulation<A: Opening, S: RandomSource>(
     settings: &SimulateSettings,
     scenario: &Scenario,
 ) -> Result<Simulation<A>, ProgramFault>
-    requires { IsPlan (plan_of scenario.now) }
+    requires { IsPlan A.words.kinds (plan_of scenario.now) }
     ensures opening { IfOk result (λ simulation. simulation ≡ simulation_at_start A.meaning settings.now.seed scenario.now.setup.config
         (plan_of scenario.now)) }
     ensures fault { IfErr result IsMemoryOrAsked }

@@ -11,7 +11,7 @@ ghost use Rattle.program.specs.Simulating.{PlansWritten, PlaysWritten, PlaysWrit
 use crate::opening::new_simulation;
 use abci::Application;
 use adversary_net::World;
-use app_kinds::Opening;
+use app_states::Opening;
 use byte_streams::{ProgramFault, write_output};
 use cluster_setup::SimulateSettings;
 use history_bytes::history_bytes;
@@ -101,7 +101,7 @@ pub(crate) fn play<A: Opening, S: RandomSource, W: Write>(
     scenario: &Scenario,
     writer: &mut W,
 ) -> Result<(), ProgramFault>
-    requires { IsPlan (plan_of scenario.now) }
+    requires { IsPlan A.words.kinds (plan_of scenario.now) }
     ensures plays { PlansWritten A.meaning result settings.now (plan_of scenario.now) (W.contents writer.old) (W.contents writer.new) }
     ensures fault { IfErr result IsMemoryOrAsked }
 {

@@ -10,7 +10,7 @@ ghost use Rattle.ledger_model.specs.Limits.{max_history_len};
 
 use crate::line::Line;
 use abci::Application;
-use app_kinds::Opening;
+use app_states::Opening;
 use byte_streams::{ProgramFault, new_random_key};
 use bytes::Bytes;
 use cluster_setup::{DeliverSettings, signer_and_ring};

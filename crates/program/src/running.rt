@@ -19,7 +19,7 @@ use crate::simulating::simulate;
 use crate::status::{BAD_INPUT, BAD_USAGE, DONE};
 use crate::stream_end::StreamEnd;
 use crate::text_end::TextEnd;
-use app_kinds::Opening;
+use app_states::Opening;
 use byte_streams::{
     ProgramFault, Resource, STOPPED, complain, flush_output, print, write_output, write_whole,
 };
@@ -45,31 +45,31 @@ pub fn run<A: Opening, S: RandomSource, R: Read, W: Write, F: Write>(
 ) -> Outcome
     // What the words ask for was done, or they ask only for the help or the version.
     ensures finishes { IfEnded result (λ status. (status ≡ 0) ⊎ (status ≡ 1)
-        → Performs A.meaning (map (λ w. w.now) words.entry.now) status (R.remaining reader.old) (R.remaining reader.new)
+        → Performs A.words A.meaning (map (λ w. w.now) words.entry.now) status (R.remaining reader.old) (R.remaining reader.new)
         (W.contents writer.old) (W.contents writer.new)
-        ⊎ (IsRefused A.meaning (map (λ w. w.now) words.entry.now) × AskForHelp (map (λ w. w.now) words.entry.now)
+        ⊎ (IsRefused A.words A.meaning (map (λ w. w.now) words.entry.now) × AskForHelp A.words (map (λ w. w.now) words.entry.now)
         × (status ≡ 0) × Keeps (R.remaining reader.old) (R.remaining reader.new))) }
     ensures quiet { IfEnded result (λ status. status ≡ 0 → Keeps (F.contents faults.old) (F.contents faults.new)) }
     // Only an audit and a picture explain what is wrong with histories.
     ensures explains { IfEnded result (λ status. status ≡ 1
-        → Keeps (F.contents faults.old) (F.contents faults.new) ⊎ AsksForHistories A.meaning (map (λ w. w.now) words.entry.now)) }
+        → Keeps (F.contents faults.old) (F.contents faults.new) ⊎ AsksForHistories A.words A.meaning (map (λ w. w.now) words.entry.now)) }
     // The words are no command line, or set nothing, and don't ask for the help or the version.
-    ensures refuses { IfEnded result (λ status. status ≡ 2 → IsRefused A.meaning (map (λ w. w.now) words.entry.now)
-        × (AskForHelpAlone (map (λ w. w.now) words.entry.now) → ⊥)
+    ensures refuses { IfEnded result (λ status. status ≡ 2 → IsRefused A.words A.meaning (map (λ w. w.now) words.entry.now)
+        × (AskForHelpAlone A.words (map (λ w. w.now) words.entry.now) → ⊥)
         × Keeps (R.remaining reader.old) (R.remaining reader.new) × Keeps (W.contents writer.old) (W.contents writer.new)) }
     // What the words ask for was begun, or nothing was, or the help or the version could not be written.
     ensures stops { IfEnded result (λ status. status ≡ 3
-        → StartsRun A.meaning (map (λ w. w.now) words.entry.now) (R.remaining reader.old) (R.remaining reader.new) (W.contents writer.old)
+        → StartsRun A.words A.meaning (map (λ w. w.now) words.entry.now) (R.remaining reader.old) (R.remaining reader.new) (W.contents writer.old)
         (W.contents writer.new)
         ⊎ (Keeps (R.remaining reader.old) (R.remaining reader.new)
         × (Keeps (W.contents writer.old) (W.contents writer.new)
-        ⊎ (IsRefused A.meaning (map (λ w. w.now) words.entry.now) × AskForHelp (map (λ w. w.now) words.entry.now))))) }
+        ⊎ (IsRefused A.words A.meaning (map (λ w. w.now) words.entry.now) × AskForHelp A.words (map (λ w. w.now) words.entry.now))))) }
     ensures known { IfEnded result (λ status. status ≤ 3) }
     // The settings are those of the words, which have no fault, and no stream was touched.
-    ensures hands_back { IfHanded result (λ settings. IsSet A.meaning (map (λ w. w.now) words.entry.now) settings
+    ensures hands_back { IfHanded result (λ settings. IsSet A.words A.meaning (map (λ w. w.now) words.entry.now) settings
         × Keeps (R.remaining reader.old) (R.remaining reader.new) × Keeps (W.contents writer.old) (W.contents writer.new)
         × Keeps (F.contents faults.old) (F.contents faults.new)
-        × (kinds_of (map (λ w. w.now) words.entry.now) ≡ [])) }
+        × (kinds_of A.words (map (λ w. w.now) words.entry.now) ≡ [])) }
 {
     match settings::<A>(alloc, words) {
         Ok(settings) => run_settings::<A, S, R, W, F>(
@@ -89,8 +89,8 @@ fn run_settings<A: Opening, S: RandomSource, R: Read, W: Write, F: Write>(
     faults: &mut F,
 ) -> Outcome
     ensures ended { IfEnded result (λ status. (IsQuiet settings status (F.contents faults.old) (F.contents faults.new)
-        × Done A.meaning settings status (R.remaining reader.old) (R.remaining reader.new) (W.contents writer.old) (W.contents writer.new))
-        ⊎ ((status ≡ 3) × Halted A.meaning settings (R.remaining reader.old) (R.remaining reader.new) (W.contents writer.old)
+        × Done A.words.kinds A.meaning settings status (R.remaining reader.old) (R.remaining reader.new) (W.contents writer.old) (W.contents writer.new))
+        ⊎ ((status ≡ 3) × Halted A.words.kinds A.meaning settings (R.remaining reader.old) (R.remaining reader.new) (W.contents writer.old)
         (W.contents writer.new))) }
     ensures handed { IfHanded result (λ handed. (handed ≡ settings)
         × Keeps (R.remaining reader.old) (R.remaining reader.new) × Keeps (W.contents writer.old) (W.contents writer.new)
@@ -153,9 +153,9 @@ fn perform<A: Opening, S: RandomSource, R: Read, W: Write>(
     writer: &mut W,
 ) -> Result<Conclusion, ProgramFault>
     ensures done { MatchResult result
-        (λ ending. Done A.meaning (settings_of settings.now) ending.status (R.remaining reader.old) (R.remaining reader.new)
+        (λ ending. Done A.words.kinds A.meaning (settings_of settings.now) ending.status (R.remaining reader.old) (R.remaining reader.new)
         (W.contents writer.old) (W.contents writer.new))
-        (λ _. Halted A.meaning (settings_of settings.now) (R.remaining reader.old) (R.remaining reader.new) (W.contents writer.old)
+        (λ _. Halted A.words.kinds A.meaning (settings_of settings.now) (R.remaining reader.old) (R.remaining reader.new) (W.contents writer.old)
         (W.contents writer.new)) }
     ensures explains { IfOk result (ExplainsHistories (settings_of settings.now)) }
 {
@@ -186,9 +186,9 @@ fn perform_whole<A: Opening, S: RandomSource, R: Read, W: Write>(
     writer: &mut W,
 ) -> Result<Conclusion, ProgramFault>
     ensures done { MatchResult result
-        (λ ending. Done A.meaning (settings_of settings.now) ending.status (R.remaining reader.old) (R.remaining reader.new)
+        (λ ending. Done A.words.kinds A.meaning (settings_of settings.now) ending.status (R.remaining reader.old) (R.remaining reader.new)
         (W.contents writer.old) (W.contents writer.new))
-        (λ _. Halted A.meaning (settings_of settings.now) (R.remaining reader.old) (R.remaining reader.new) (W.contents writer.old)
+        (λ _. Halted A.words.kinds A.meaning (settings_of settings.now) (R.remaining reader.old) (R.remaining reader.new) (W.contents writer.old)
         (W.contents writer.new)) }
     ensures explains { IfOk result (ExplainsHistories (settings_of settings.now)) }
 {

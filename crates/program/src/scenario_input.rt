@@ -6,6 +6,7 @@ ghost use Rattle.byte_streams.specs.Faults.{IsMemoryOrAsked};
 ghost use Rattle.program.specs.Simulating.{IsRead, IsReadInTime};
 
 use crate::reading::{PIECE_LEN, read_piece};
+use app_states::Opening;
 use byte_streams::{ProgramFault, Resource};
 use scenario_texts::{LineCount, Scenario, TextFault, read};
 use std::alloc::Global;
@@ -45,17 +46,17 @@ fn read_text<R: Read>(alloc: Global, reader: &mut R) -> Result<Vec<u8>, ProgramF
 }
 
 /// The scenario of a stream, or the number of its first bad line. The text is dropped before the scenario is returned.
-pub(crate) fn read_scenario<R: Read>(
+pub(crate) fn read_scenario<A: Opening, R: Read>(
     alloc: Global,
     reader: &mut R,
 ) -> Result<ScenarioInput, ProgramFault>
     ensures read { MatchResult result
-        (λ found. IsRead found (R.remaining reader.old) (R.remaining reader.new))
+        (λ found. IsRead A.words.kinds found (R.remaining reader.old) (R.remaining reader.new))
         (λ _. (input : List ℕ) × (Consumes (R.remaining reader.old) (R.remaining reader.new) input × IsReadInTime input)) }
     ensures fault { IfErr result IsMemoryOrAsked }
 {
     let text = read_text(alloc, reader)?;
-    match read(alloc, &text) {
+    match read(alloc, A::kinds(), &text) {
         Ok(scenario) => Ok(ScenarioInput::Scenario(scenario)),
         Err(TextFault::BadLine(number)) => Ok(ScenarioInput::BadLine(number)),
         Err(TextFault::NoMemory) => Err(ProgramFault::NoMemory),

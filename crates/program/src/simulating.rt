@@ -7,7 +7,7 @@ ghost use Rattle.program.specs.Simulating.{PlaysText, PlaysTextSome, bad_line};
 use crate::playing::play;
 use crate::scenario_input::{ScenarioInput, read_scenario};
 use crate::text_end::TextEnd;
-use app_kinds::Opening;
+use app_states::Opening;
 use byte_streams::{ProgramFault, write_output};
 use cluster_setup::SimulateSettings;
 use std::alloc::Global;
@@ -34,13 +34,13 @@ pub fn simulate<A: Opening, S: RandomSource, R: Read, W: Write>(
     writer: &mut W,
 ) -> Result<TextEnd, ProgramFault>
     ensures plays { MatchResult result
-        (λ end. PlaysText A.meaning settings.now end (R.remaining reader.old) (R.remaining reader.new) (W.contents writer.old)
+        (λ end. PlaysText A.words.kinds A.meaning settings.now end (R.remaining reader.old) (R.remaining reader.new) (W.contents writer.old)
         (W.contents writer.new))
-        (λ _. PlaysTextSome A.meaning settings.now (R.remaining reader.old) (R.remaining reader.new) (W.contents writer.old)
+        (λ _. PlaysTextSome A.words.kinds A.meaning settings.now (R.remaining reader.old) (R.remaining reader.new) (W.contents writer.old)
         (W.contents writer.new)) }
     ensures fault { IfErr result IsMemoryOrAsked }
 {
-    match read_scenario(alloc, reader)? {
+    match read_scenario::<A, R>(alloc, reader)? {
         ScenarioInput::Scenario(scenario) => {
             play::<A, S, W>(source, alloc, settings, &scenario, writer)?;
             Ok(TextEnd::Whole)

@@ -1,4 +1,5 @@
 //! Reads scenario texts for the tests. `tests/scenarios.sh` tests which texts are bad, and at which line.
+use ledger_model::AppKinds;
 use scenario_texts::{Command, Scenario, read};
 use std::alloc::{AllocError, Global};
 
@@ -6,7 +7,7 @@ use std::alloc::{AllocError, Global};
 pub(crate) fn seen<T, F: FnOnce(&Scenario) -> T>(alloc: Global, text: &[u8], look: F) -> Option<T>
     requires { F.IsAlwaysCallable look }
 {
-    match read(alloc, text) {
+    match read(alloc, AppKinds::Three, text) {
         Ok(scenario) => Some(look(&scenario)),
         Err(_) => None,
     }
@@ -29,7 +30,7 @@ pub(crate) fn seen_step<T, F: FnOnce(&Command) -> T>(
     requires { F.IsAlwaysCallable look }
 {
     let text = text_of_line(alloc, line).ok()?;
-    let scenario = read(alloc, text.as_slice()).ok()?;
+    let scenario = read(alloc, AppKinds::Three, text.as_slice()).ok()?;
     match scenario.commands.as_slice() {
         [step] => Some(look(step)),
         _ => None,

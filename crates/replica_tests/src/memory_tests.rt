@@ -2,7 +2,6 @@
 ghost use Rattle.std.specs.Prelude.{◌≡◌, [], vec_len, All, IfOk};
 ghost use Rattle.ledger_model.specs.Kinds.{meaning_of};
 ghost use Rattle.ledger_model.specs.Applications.{run};
-ghost use Rattle.app_kinds.specs.Chosen.{machine_of};
 
 use crate::fault::Fault;
 use crate::following::{follower_with, is_taken, takes_all};
@@ -26,7 +25,7 @@ fn refusing_apps(
     count: usize,
 ) -> Result<Vec<Refusing<AnyKind>>, AllocError>
     ensures count { IfOk result (λ apps. vec_len apps ≡ count) }
-    ensures opening { IfOk result (λ apps. All (λ app. machine_of app.app ≡ run meaning_of kind []) apps.items) }
+    ensures opening { IfOk result (λ apps. All (λ app. app.app ≡ run meaning_of kind []) apps.items) }
 {
     let mut apps = Vec::with_capacity(alloc, count)?;
     for _ in 0..count {

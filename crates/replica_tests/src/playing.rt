@@ -7,9 +7,10 @@ use crate::fault::Fault;
 use crate::scripts::{Script, text_of};
 use abci::Application;
 use adversary_net::count_correct;
-use app_kinds::{AnyKind, new_apps};
+use app_kinds::AnyKind;
+use app_states::new_apps;
 use cluster_setup::ClusterSeed;
-use ledger_model::ReplicaId;
+use ledger_model::{AppKinds, ReplicaId};
 use locked_replica::Snapshot;
 use scenario_texts::{Command, Scenario, Setup, read};
 use simulation::Simulation;
@@ -91,7 +92,7 @@ pub(crate) fn play_all<A: Application>(
 /// The scenario of a script.
 pub(crate) fn scenario_of(alloc: Global, script: Script) -> Result<Scenario, Fault> {
     let text = text_of(alloc, script)?;
-    Ok(read(alloc, &text)?)
+    Ok(read(alloc, AppKinds::Three, &text)?)
 }
 
 /// The simulation after a scenario was played.

@@ -2,7 +2,8 @@
 use crate::fault::Fault;
 use crate::playing::new_randoms;
 use adversary_net::{World, count_correct};
-use app_kinds::{AnyKind, new_apps};
+use app_kinds::AnyKind;
+use app_states::new_apps;
 use bytes::Bytes;
 use cluster_setup::ClusterSeed;
 use history_bytes::history_bytes;

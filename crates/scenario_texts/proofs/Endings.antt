@@ -1,4 +1,5 @@
 -- The lines so far, and what their text may still encode.
+use Rattle.ledger_model.specs.declared.config.AppKinds.{AppKinds}
 use Rattle.std.proofs.Common.{◌≡◌, ◌∙◌, ℕ, ◌+◌, ◌<◌, ◌≤◌, Bool, true, false, cond, List, [], ◌∷◌, ◌++◌, length, refl, sym, ap, subst, inl}
 use Rattle.std.proofs.Common.{inr, append_assoc, arith}
 use Rattle.std.specs.Prelude.{◌≢◌, ◌⊎◌, ◌==◌, Option, Some, None}
@@ -18,20 +19,20 @@ use Rattle.scenario_texts.proofs.LineReading.{Shows, line_shows, line_of_words}
 use Rattle.scenario_texts.proofs.Runs.{run, run-append, run-cons, run-bad, plan_again}
 
 -- these lines were read, and gave this
-pub record Going (text left : List ℕ) (number : ℕ) (s : Option Plan) : Type 0 where
+pub record Going (kinds : AppKinds) (text left : List ℕ) (number : ℕ) (s : Option Plan) : Type 0 where
   pub lines : List (List ℕ)
   pub whole : text ≡ flat_map whole_line lines ++ left
   pub unbroken : AllByRecursion IsUnbroken lines
   pub numbered : number ≡ length lines + 1
   pub few : length lines ≤ max_lines
   pub short : AreWithinLengths lines
-  pub read : run None (counted_lines lines) ≡ Some s
-  pub shows : Shows s (counted_lines lines)
+  pub read : run kinds None (counted_lines lines) ≡ Some s
+  pub shows : Shows kinds s (counted_lines lines)
 
 -- before the first line
-pub started : (text : List ℕ) → Going text text 1 None
+pub started : (kinds : AppKinds) (text : List ℕ) → Going kinds text text 1 None
 unfolding run
-started text = record {
+started kinds text = record {
   lines = [];
   whole = refl;
   unbroken = tt;
@@ -43,10 +44,10 @@ started text = record {
 }
 
 -- the limit of the next line is that of the plan so far
-at_limit : (text left : List ℕ) (number : ℕ) (s : Option Plan) (going : Going text left number s) (line : List ℕ)
+at_limit : (kinds : AppKinds) (text left : List ℕ) (number : ℕ) (s : Option Plan) (going : Going kinds text left number s) (line : List ℕ)
     → length line ≤ limit_after s → length line ≤ line_limit going.lines
-at_limit text left number s going line short =
-    subst (λ (limit : ℕ). length line ≤ limit) (sym (limit_is s going.lines going.shows)) short
+at_limit kinds text left number s going line short =
+    subst (λ (limit : ℕ). length line ≤ limit) (sym (limit_is kinds s going.lines going.shows)) short
 
 -- the text with a line more
 pub whole_more : (text : List ℕ) (lines : List (List ℕ)) (left line rest : List ℕ) → text ≡ flat_map whole_line lines ++ left
@@ -66,27 +67,27 @@ passed_more lines line over = filter-append counts lines (line ∷ []) ∙ ap (�
     ∙ append-nil (counted_lines lines)
 
 -- a line that is passed over
-pub goes_over : (text left : List ℕ) (number : ℕ) (s : Option Plan) (line rest : List ℕ) → Going text left number s
+pub goes_over : (kinds : AppKinds) (text left : List ℕ) (number : ℕ) (s : Option Plan) (line rest : List ℕ) → Going kinds text left number s
     → left ≡ line ++ 10 ∷ rest → IsUnbroken line → number ≤ max_lines → length line ≤ limit_after s
-    → counts line ≡ false → Going text rest (number + 1) s
-goes_over text left number s line rest going cut unbroken few short over = record {
+    → counts line ≡ false → Going kinds text rest (number + 1) s
+goes_over kinds text left number s line rest going cut unbroken few short over = record {
   lines = going.lines ++ line ∷ [];
   whole = whole_more text going.lines left line rest going.whole cut;
   unbroken = all_by_recursion_push IsUnbroken going.lines line going.unbroken unbroken;
   numbered = omega (arith, going.numbered, length-append going.lines (line ∷ []));
   few = omega (arith, going.numbered, length-append going.lines (line ∷ []));
-  short = short_more going.lines line going.short (at_limit text left number s going line short);
-  read = ap (run None) (passed_more going.lines line over) ∙ going.read;
-  shows = subst (Shows s) (sym (passed_more going.lines line over)) going.shows;
+  short = short_more going.lines line going.short (at_limit kinds text left number s going line short);
+  read = ap (run kinds None) (passed_more going.lines line over) ∙ going.read;
+  shows = subst (Shows kinds s) (sym (passed_more going.lines line over)) going.shows;
 }
 
 -- a line that counts
-pub goes_further : (text left : List ℕ) (number : ℕ) (s : Option Plan) (line rest : List ℕ) (p : Plan) → Going text left number s
+pub goes_further : (kinds : AppKinds) (text left : List ℕ) (number : ℕ) (s : Option Plan) (line rest : List ℕ) (p : Plan) → Going kinds text left number s
     → left ≡ line ++ 10 ∷ rest → IsUnbroken line → number ≤ max_lines → length line ≤ limit_after s
-    → counts line ≡ true → next_of s line ≡ Some p → Going text rest (number + 1) (Some p)
+    → counts line ≡ true → next_of kinds s line ≡ Some p → Going kinds text rest (number + 1) (Some p)
 unfolding run
-goes_further text left number s line rest p going cut unbroken few short is next =
-    let more = line_shows s line p (counted_lines going.lines) next going.shows in
+goes_further kinds text left number s line rest p going cut unbroken few short is next =
+    let more = line_shows kinds s line p (counted_lines going.lines) next going.shows in
     let same : counted_lines (going.lines ++ line ∷ []) ≡ counted_lines going.lines ++ line ∷ [] = counted_more going.lines line is in
     record {
       lines = going.lines ++ line ∷ [];
@@ -94,15 +95,15 @@ goes_further text left number s line rest p going cut unbroken few short is next
       unbroken = all_by_recursion_push IsUnbroken going.lines line going.unbroken unbroken;
       numbered = omega (arith, going.numbered, length-append going.lines (line ∷ []));
       few = omega (arith, going.numbered, length-append going.lines (line ∷ []));
-      short = short_more going.lines line going.short (at_limit text left number s going line short);
-      read = ap (run None) same ∙ run-append None s (counted_lines going.lines) (line ∷ []) going.read ∙ run-cons s line [] p next;
+      short = short_more going.lines line going.short (at_limit kinds text left number s going line short);
+      read = ap (run kinds None) same ∙ run-append kinds None s (counted_lines going.lines) (line ∷ []) going.read ∙ run-cons kinds s line [] p next;
       shows = (same ∙ ap (λ l. counted_lines going.lines ++ l ∷ []) (sym (line_of_words line)) ∙ more.spelled, more.lawful);
     }
 
 -- so far nothing is wrong
-going_on : (text left : List ℕ) (number : ℕ) (s : Option Plan) (going : Going text left number s) → IsPlanSoFar going.lines
-going_on text left number None going = record { short = going.short; begun = inl going.shows }
-going_on text left number (Some p) going = record { short = going.short; begun = inr (p, going.shows) }
+going_on : (kinds : AppKinds) (text left : List ℕ) (number : ℕ) (s : Option Plan) (going : Going kinds text left number s) → IsPlanSoFar kinds going.lines
+going_on kinds text left number None going = record { short = going.short; begun = inl going.shows }
+going_on kinds text left number (Some p) going = record { short = going.short; begun = inr (p, going.shows) }
 
 -- a text has one first line
 pub first_same : (a b x y : List ℕ) → IsUnbroken a → IsUnbroken b → a ++ 10 ∷ x ≡ b ++ 10 ∷ y → (a ≡ b) × (x ≡ y)
@@ -144,16 +145,16 @@ each_second P [] ys all = all
 each_second P (x ∷ xs) ys (first, all) = each_second P xs ys all
 
 -- what is left of a text that spells a plan
-record Rest (left : List ℕ) (number : ℕ) (s : Option Plan) (q : Plan) : Type 0 where
+record Rest (kinds : AppKinds) (left : List ℕ) (number : ℕ) (s : Option Plan) (q : Plan) : Type 0 where
   more : List (List ℕ)
   whole : left ≡ flat_map whole_line more
   unbroken : AllByRecursion IsUnbroken more
   few : number + length more ≤ max_lines + 1
   short : (line : List ℕ) (after : List (List ℕ)) → more ≡ line ∷ after → length line ≤ limit_after s
-  read : run s (counted_lines more) ≡ Some (Some q)
+  read : run kinds s (counted_lines more) ≡ Some (Some q)
 
-rest_of : (text left : List ℕ) (number : ℕ) (s : Option Plan) (q : Plan) → Going text left number s → SpellsPlan text q → Rest left number s q
-rest_of text left number s q going spells =
+rest_of : (kinds : AppKinds) (text left : List ℕ) (number : ℕ) (s : Option Plan) (q : Plan) → Going kinds text left number s → SpellsPlan kinds text q → Rest kinds left number s q
+rest_of kinds text left number s q going spells =
     let (more, (others, ends)) = rest_of_lines going.lines spells.lines left going.unbroken spells.unbroken
     (sym going.whole ∙ spells.whole) in
     let those : counted_lines spells.lines ≡ counted_lines going.lines ++ counted_lines more = ap counted_lines others ∙ filter-append counts going.lines more in
@@ -163,52 +164,52 @@ rest_of text left number s q going spells =
       whole = ends;
       unbroken = each_second IsUnbroken going.lines more (subst (AllByRecursion IsUnbroken) others spells.unbroken);
       few = omega (arith, going.numbered, spells.few, count);
-      short = λ line after first. subst (λ (limit : ℕ). length line ≤ limit) (limit_is s going.lines going.shows)
+      short = λ line after first. subst (λ (limit : ℕ). length line ≤ limit) (limit_is kinds s going.lines going.shows)
           (spells.short going.lines after line (others ∙ ap (λ (m : List (List ℕ)). going.lines ++ m) first));
-      read = sym (run-append None s (counted_lines going.lines) (counted_lines more) going.read) ∙ ap (run None) (sym those ∙ spells.those)
-          ∙ plan_again q spells.lawful;
+      read = sym (run-append kinds None s (counted_lines going.lines) (counted_lines more) going.read) ∙ ap (run kinds None) (sym those ∙ spells.those)
+          ∙ plan_again kinds q spells.lawful;
     }
 
 -- why the line is bad
-pub data IsBad (number : ℕ) (s : Option Plan) (line : List ℕ) : Type 0 where
-  too_many : max_lines < number → IsBad number s line
-  too_long : limit_after s < length line → IsBad number s line
-  refused : counts line ≡ true → next_of s line ≡ None → IsBad number s line
+pub data IsBad (kinds : AppKinds) (number : ℕ) (s : Option Plan) (line : List ℕ) : Type 0 where
+  too_many : max_lines < number → IsBad kinds number s line
+  too_long : limit_after s < length line → IsBad kinds number s line
+  refused : counts line ≡ true → next_of kinds s line ≡ None → IsBad kinds number s line
 
 -- no text that has it there spells a plan
-bad_rest : (number : ℕ) (s : Option Plan) (line rest : List ℕ) (q : Plan) → IsUnbroken line → IsBad number s line
-    → Rest (line ++ 10 ∷ rest) number s q → ⊥
-bad_rest number s line rest q unbroken bad left = by_more left.more left.whole left.unbroken left.few left.short left.read
+bad_rest : (kinds : AppKinds) (number : ℕ) (s : Option Plan) (line rest : List ℕ) (q : Plan) → IsUnbroken line → IsBad kinds number s line
+    → Rest kinds (line ++ 10 ∷ rest) number s q → ⊥
+bad_rest kinds number s line rest q unbroken bad left = by_more left.more left.whole left.unbroken left.few left.short left.read
   where
-    by_reason : (more : List (List ℕ)) → IsBad number s line → number + length (line ∷ more) ≤ max_lines + 1 → length line ≤ limit_after s
-        → run s (counted_lines (line ∷ more)) ≡ Some (Some q) → ⊥
+    by_reason : (more : List (List ℕ)) → IsBad kinds number s line → number + length (line ∷ more) ≤ max_lines + 1 → length line ≤ limit_after s
+        → run kinds s (counted_lines (line ∷ more)) ≡ Some (Some q) → ⊥
     by_reason more (too_many many) few short read = omega (arith, many, few)
     by_reason more (too_long long) few short read = omega (arith, long, short)
     by_reason more (refused is none) few short read =
         let there : counted_lines (line ∷ more) ≡ line ∷ counted_lines more = ap (λ (t : Bool). cond t (line ∷ counted_lines more) (counted_lines more)) is in
-        let nothing : None ≡ Some (Some q) = sym (run-bad s line (counted_lines more) none) ∙ ap (run s) (sym there) ∙ read in
+        let nothing : None ≡ Some (Some q) = sym (run-bad kinds s line (counted_lines more) none) ∙ ap (run kinds s) (sym there) ∙ read in
         cc
 
     by_more : (more : List (List ℕ)) → line ++ 10 ∷ rest ≡ flat_map whole_line more → AllByRecursion IsUnbroken more
         → number + length more ≤ max_lines + 1
         → ((first : List ℕ) (after : List (List ℕ)) → more ≡ first ∷ after → length first ≤ limit_after s)
-        → run s (counted_lines more) ≡ Some (Some q) → ⊥
+        → run kinds s (counted_lines more) ≡ Some (Some q) → ⊥
     by_more [] whole u few short read = some_feed line rest whole
     by_more (o ∷ more) whole (v, u) few short read =
         let same : line ≡ o = (first_same line o rest (flat_map whole_line more) unbroken v
         (whole ∙ append_assoc o (10 ∷ []) (flat_map whole_line more))).0 in
         by_reason more bad few (subst (λ (l : List ℕ). length l ≤ limit_after s) (sym same) (short o more refl))
-        (subst (λ (l : List ℕ). run s (counted_lines (l ∷ more)) ≡ Some (Some q)) (sym same) read)
+        (subst (λ (l : List ℕ). run kinds s (counted_lines (l ∷ more)) ≡ Some (Some q)) (sym same) read)
 
 -- with it the lines don't go on
-not_on : (text left : List ℕ) (number : ℕ) (s : Option Plan) (line : List ℕ) (going : Going text left number s) → IsBad number s line
-    → (max_lines ≤ length going.lines) ⊎ (IsPlanSoFar (going.lines ++ line ∷ []) → ⊥)
-not_on text left number s line going (too_many many) = inl (omega (arith, many, going.numbered))
-not_on text left number s line going (too_long long) =
+not_on : (kinds : AppKinds) (text left : List ℕ) (number : ℕ) (s : Option Plan) (line : List ℕ) (going : Going kinds text left number s) → IsBad kinds number s line
+    → (max_lines ≤ length going.lines) ⊎ (IsPlanSoFar kinds (going.lines ++ line ∷ []) → ⊥)
+not_on kinds text left number s line going (too_many many) = inl (omega (arith, many, going.numbered))
+not_on kinds text left number s line going (too_long long) =
     inr (λ on. let short : length line ≤ limit_after s =
-    subst (λ (limit : ℕ). length line ≤ limit) (limit_is s going.lines going.shows) (on.short going.lines [] line refl) in
+    subst (λ (limit : ℕ). length line ≤ limit) (limit_is kinds s going.lines going.shows) (on.short going.lines [] line refl) in
     omega (arith, long, short))
-not_on text left number s line going (refused is none) = inr (λ on. by_begun on.begun)
+not_on kinds text left number s line going (refused is none) = inr (λ on. by_begun on.begun)
   where
     there : counted_lines (going.lines ++ line ∷ []) ≡ counted_lines going.lines ++ line ∷ []
     there = counted_more going.lines line is
@@ -217,20 +218,20 @@ not_on text left number s line going (refused is none) = inr (λ on. by_begun on
     some_line [] e = cc
     some_line (x ∷ xs) e = cc
 
-    by_begun : (counted_lines (going.lines ++ line ∷ []) ≡ []) ⊎ ((p : Plan) × ((counted_lines (going.lines ++ line ∷ []) ≡ plan_lines p) × IsPlan p))
+    by_begun : (counted_lines (going.lines ++ line ∷ []) ≡ []) ⊎ ((p : Plan) × ((counted_lines (going.lines ++ line ∷ []) ≡ plan_lines p) × IsPlan kinds p))
         → ⊥
     by_begun (inl nothing) = some_line (counted_lines going.lines) (sym there ∙ nothing)
     by_begun (inr (p, (spelled, lawful))) =
         let bad : None ≡ Some (Some p) =
-        sym (run-append None s (counted_lines going.lines) (line ∷ []) going.read ∙ run-bad s line [] none)
-        ∙ ap (run None) (sym there ∙ spelled) ∙ plan_again p lawful in
+        sym (run-append kinds None s (counted_lines going.lines) (line ∷ []) going.read ∙ run-bad kinds s line [] none)
+        ∙ ap (run kinds None) (sym there ∙ spelled) ∙ plan_again kinds p lawful in
         cc
 
 -- the line is the first bad one, and the text spells nothing
-pub bad_line : (text left : List ℕ) (number : ℕ) (s : Option Plan) (line rest : List ℕ) → Going text left number s
-    → left ≡ line ++ 10 ∷ rest → IsUnbroken line → IsBad number s line
-    → IsBadAt text number × ((q : Plan) → SpellsPlan text q → ⊥)
-bad_line text left number s line rest going cut unbroken bad = (
+pub bad_line : (kinds : AppKinds) (text left : List ℕ) (number : ℕ) (s : Option Plan) (line rest : List ℕ) → Going kinds text left number s
+    → left ≡ line ++ 10 ∷ rest → IsUnbroken line → IsBad kinds number s line
+    → IsBadAt kinds text number × ((q : Plan) → SpellsPlan kinds text q → ⊥)
+bad_line kinds text left number s line rest going cut unbroken bad = (
   record {
     before = going.lines;
     rest = left;
@@ -238,18 +239,18 @@ bad_line text left number s line rest going cut unbroken bad = (
     unbroken = going.unbroken;
     few = going.few;
     numbered = going.numbered;
-    goes_on = going_on text left number s going;
+    goes_on = going_on kinds text left number s going;
     bad = inl (record {
       line = line;
       after = rest;
       ends = cut ∙ sym (append_assoc line (10 ∷ []) rest);
       unbroken = unbroken;
       bad =
-          not_on text left number s line going bad;
+          not_on kinds text left number s line going bad;
     });
   },
-  λ q spells. bad_rest number s line rest q unbroken bad
-      (subst (λ (l : List ℕ). Rest l number s q) cut (rest_of text left number s q going spells)),
+  λ q spells. bad_rest kinds number s line rest q unbroken bad
+      (subst (λ (l : List ℕ). Rest kinds l number s q) cut (rest_of kinds text left number s q going spells)),
 )
 
 -- an unbroken text is no ended line
@@ -258,10 +259,10 @@ not_ended [] after u = All-head (λ d. d ≢ 10) 10 after u refl
 not_ended (c ∷ line) after u = not_ended line after (All-tail (λ d. d ≢ 10) c (whole_line line ++ after) u)
 
 -- the text ends badly there
-bad_end : (text left : List ℕ) (number : ℕ) (s : Option Plan) → Going text left number s → IsUnbroken left → (left ≢ []) ⊎ (s ≡ None)
-    → IsBadAt text number × ((q : Plan) → SpellsPlan text q → ⊥)
+bad_end : (kinds : AppKinds) (text left : List ℕ) (number : ℕ) (s : Option Plan) → Going kinds text left number s → IsUnbroken left → (left ≢ []) ⊎ (s ≡ None)
+    → IsBadAt kinds text number × ((q : Plan) → SpellsPlan kinds text q → ⊥)
 unfolding run
-bad_end text left number s going unbroken bad = (
+bad_end kinds text left number s going unbroken bad = (
   record {
     before = going.lines;
     rest = left;
@@ -269,26 +270,26 @@ bad_end text left number s going unbroken bad = (
     unbroken = going.unbroken;
     few = going.few;
     numbered = going.numbered;
-    goes_on = going_on text left number s going;
+    goes_on = going_on kinds text left number s going;
     bad = inr (record { unended = unbroken; bad = why bad });
   },
-  λ q spells. let over = rest_of text left number s q going spells in none_left over.more q over.whole over.read bad,
+  λ q spells. let over = rest_of kinds text left number s q going spells in none_left over.more q over.whole over.read bad,
 )
   where
     why : (left ≢ []) ⊎ (s ≡ None) → (left ≢ []) ⊎ (counted_lines going.lines ≡ [])
     why (inl some) = inl some
-    why (inr none) = inr (subst (λ (o : Option Plan). Shows o (counted_lines going.lines)) none going.shows)
+    why (inr none) = inr (subst (λ (o : Option Plan). Shows kinds o (counted_lines going.lines)) none going.shows)
 
-    none_left : (more : List (List ℕ)) (q : Plan) → left ≡ flat_map whole_line more → run s (counted_lines more) ≡ Some (Some q)
+    none_left : (more : List (List ℕ)) (q : Plan) → left ≡ flat_map whole_line more → run kinds s (counted_lines more) ≡ Some (Some q)
         → (left ≢ []) ⊎ (s ≡ None) → ⊥
     none_left [] q whole read (inl some) = some whole
     none_left [] q whole read (inr none) = let at : s ≡ Some q = cc in cc
     none_left (o ∷ more) q whole read why = not_ended o (flat_map whole_line more) (subst IsUnbroken whole unbroken)
 
 -- the text spells the plan, and no other
-good_end : (text : List ℕ) (number : ℕ) (p : Plan) → Going text [] number (Some p) → SpellsPlan text p × ((q : Plan) → SpellsPlan text q → p ≡ q)
+good_end : (kinds : AppKinds) (text : List ℕ) (number : ℕ) (p : Plan) → Going kinds text [] number (Some p) → SpellsPlan kinds text p × ((q : Plan) → SpellsPlan kinds text q → p ≡ q)
 unfolding run
-good_end text number p going = (
+good_end kinds text number p going = (
   record {
     lines = going.lines;
     whole = going.whole ∙ append-nil (flat_map whole_line going.lines);
@@ -298,10 +299,10 @@ good_end text number p going = (
     those = going.shows.0;
     lawful = going.shows.1;
   },
-  λ q spells. let over = rest_of text [] number (Some p) q going spells in by_more over.more q over.whole over.read,
+  λ q spells. let over = rest_of kinds text [] number (Some p) q going spells in by_more over.more q over.whole over.read,
 )
   where
-    by_more : (more : List (List ℕ)) (q : Plan) → [] ≡ flat_map whole_line more → run (Some p) (counted_lines more) ≡ Some (Some q) → p ≡ q
+    by_more : (more : List (List ℕ)) (q : Plan) → [] ≡ flat_map whole_line more → run kinds (Some p) (counted_lines more) ≡ Some (Some q) → p ≡ q
     by_more [] q whole read = cc
     by_more (o ∷ more) q whole read =
         absurd (some_feed o (flat_map whole_line more) (sym (append_assoc o (10 ∷ []) (flat_map whole_line more)) ∙ sym whole))
@@ -317,16 +318,16 @@ something_left [] e = λ none. let bad : true ≡ false = e in cc
 something_left (b ∷ left) e = λ none. cc
 
 -- the text ends well there
-pub ends_well : (text left : List ℕ) (number : ℕ) (s : Option Plan) (p : Plan) → Going text left number s → (length left == 0) ≡ true
-    → s ≡ Some p → SpellsPlan text p × ((q : Plan) → SpellsPlan text q → p ≡ q)
-ends_well text left number s p going empty is =
-    good_end text number p (subst (λ (o : Option Plan). Going text [] number o) is
-    (subst (λ (l : List ℕ). Going text l number s) (nothing_left left empty) going))
+pub ends_well : (kinds : AppKinds) (text left : List ℕ) (number : ℕ) (s : Option Plan) (p : Plan) → Going kinds text left number s → (length left == 0) ≡ true
+    → s ≡ Some p → SpellsPlan kinds text p × ((q : Plan) → SpellsPlan kinds text q → p ≡ q)
+ends_well kinds text left number s p going empty is =
+    good_end kinds text number p (subst (λ (o : Option Plan). Going kinds text [] number o) is
+    (subst (λ (l : List ℕ). Going kinds text l number s) (nothing_left left empty) going))
 
 -- or badly
-pub ends_badly : (text left : List ℕ) (number : ℕ) (s : Option Plan) → Going text left number s → IsUnbroken left
-    → ((length left == 0) ≡ false) ⊎ (s ≡ None) → IsBadAt text number × ((q : Plan) → SpellsPlan text q → ⊥)
-ends_badly text left number s going unbroken bad = bad_end text left number s going unbroken (why bad)
+pub ends_badly : (kinds : AppKinds) (text left : List ℕ) (number : ℕ) (s : Option Plan) → Going kinds text left number s → IsUnbroken left
+    → ((length left == 0) ≡ false) ⊎ (s ≡ None) → IsBadAt kinds text number × ((q : Plan) → SpellsPlan kinds text q → ⊥)
+ends_badly kinds text left number s going unbroken bad = bad_end kinds text left number s going unbroken (why bad)
   where
     why : ((length left == 0) ≡ false) ⊎ (s ≡ None) → (left ≢ []) ⊎ (s ≡ None)
     why (inl some) = inl (something_left left some)

@@ -1,8 +1,8 @@
 -- How long the next line may be follows from the plan so far.
+use Rattle.ledger_model.specs.declared.config.AppKinds.{AppKinds}
 use Rattle.std.proofs.Common.{◌≡◌, ◌∙◌, ℕ, ◌≤◌, Bool, true, false, cond, List, [], ◌∷◌, ◌++◌, map, length, refl, sym, ap, inl, inr, arith}
 use Rattle.std.specs.Prelude.{◌⊎◌, ◌||◌, nat_eq, codes, Option, Some, None}
 use Rattle.std.specs.List.{list_any}
-use Rattle.std.specs.Str.{bytes_eq}
 use Rattle.std.proofs.lemmas.Slice.Eq.{bytes_eq-Decides}
 use Rattle.ledger_model.specs.declared.version.Version.{Version}
 use Rattle.ledger_model.specs.declared.version.Version.TheVariants as version
@@ -170,10 +170,10 @@ plan_sets p =
     ) (or-false _ ∙ or-false _)
 
 -- the most bytes of a line after these lines, by the plan that they show
-pub limit_is : (s : Option Plan) (lines : List (List ℕ)) → Shows s (counted_lines lines) → line_limit lines ≡ limit_after s
-limit_is None lines none =
+pub limit_is : (kinds : AppKinds) (s : Option Plan) (lines : List (List ℕ)) → Shows kinds s (counted_lines lines) → line_limit lines ≡ limit_after s
+limit_is kinds None lines none =
     ap (λ (t : Bool). cond t max_line_len short_line_len) (any_counted lines ∙ ap (list_any sets_frames) none)
-limit_is (Some p) lines (spelled, is) =
+limit_is kinds (Some p) lines (spelled, is) =
     ap (λ (t : Bool). cond t max_line_len short_line_len) (any_counted lines ∙ ap (list_any sets_frames) spelled ∙ plan_sets p)
     ∙ limit_of_version p.frames
 

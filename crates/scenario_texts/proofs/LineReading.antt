@@ -1,4 +1,5 @@
 -- A line adds to a plan exactly what its text is.
+use Rattle.ledger_model.specs.declared.config.AppKinds.{AppKinds}
 use Rattle.std.proofs.Common.{◌≡◌, ◌∙◌, Bor, ℕ, ◌<◌, Bool, true, false, List, [], ◌∷◌, ◌++◌, map, refl, sym, ap, subst, append_assoc, arith}
 use Rattle.std.specs.Prelude.{◌==◌, ◌||◌, nat_eq, codes, Option, Some, None, Result, Ok, Err, MatchResult, Contains, option_and_then}
 use Rattle.std.specs.List.{list_all, list_any, All, AllPass, AllByRecursion, slice_split}
@@ -18,7 +19,6 @@ use Rattle.std.proofs.lemmas.List.Splits.{join_with_byte-slice_split}
 use Rattle.std.proofs.lemmas.Option.{cond_some}
 use Rattle.std.proofs.SliceLists.{all_by_recursion_push}
 use Rattle.ledger_model.specs.declared.config.AppKind.{AppKind}
-use Rattle.ledger_model.specs.declared.version.Version.{Version}
 use Rattle.ledger_model.specs.declared.version.Version.TheVariants as version
 use Rattle.lm_ots.specs.Parameters.{bits_of, levels_of}
 use Rattle.lm_ots.specs.declared.params.Params.{Params}
@@ -45,19 +45,19 @@ use Rattle.scenario_texts.proofs.PlanReading.{with_liar-sound, IsEarly}
 use Rattle.scenario_texts.proofs.PlanReading.{MayLie}
 
 -- these are the lines that count of what was read
-abbrev pub Shows : Option Plan → List (List ℕ) → Type 0
-Shows None lines = lines ≡ []
-Shows (Some p) lines = (lines ≡ plan_lines p) × IsPlan p
+abbrev pub Shows : AppKinds → Option Plan → List (List ℕ) → Type 0
+Shows kinds None lines = lines ≡ []
+Shows kinds (Some p) lines = (lines ≡ plan_lines p) × IsPlan kinds p
 
 -- after a line more, whose words are of visible characters
-pub record ShowsMore (lines : List (List ℕ)) (words : List (List ℕ)) (q : Plan) : Type 0 where
+pub record ShowsMore (kinds : AppKinds) (lines : List (List ℕ)) (words : List (List ℕ)) (q : Plan) : Type 0 where
   pub spelled : lines ++ words_text words ∷ [] ≡ plan_lines q
-  pub lawful : IsPlan q
+  pub lawful : IsPlan kinds q
   pub visible : IsWords words
 
 -- a liar's number is small
-pub liar_small : (p : Plan) → IsPlan p → (r : ℕ) → Contains p.liars r → IsNumber r
-liar_small p is r among =
+pub liar_small : (kinds : AppKinds) (p : Plan) → IsPlan kinds p → (r : ℕ) → Contains p.liars r → IsNumber r
+liar_small kinds p is r among =
     let below : r < p.replicas = All-contains (λ liar. liar < p.replicas) p.liars r
     (All-from_recursion (λ liar. liar < p.replicas) p.liars is.setup.replicas) among in
     omega (arith, is.setup.bounded)
@@ -69,18 +69,19 @@ unfolding plan_lines
 plan_lines-command p c = ap (λ ls. setup_lines p ++ ls) (map_push command_text p.commands c)
     ∙ sym (append_assoc (setup_lines p) (map command_text p.commands) (command_text c ∷ []))
 
-with_command_shows : (p : Plan) (k : Keyword) (fields : List (List ℕ)) (q : Plan) (lines : List (List ℕ))
-    → with_command p k fields ≡ Some q → Shows (Some p) lines → ShowsMore lines (keyword_text k ∷ fields) q
+with_command_shows : (kinds : AppKinds) (p : Plan) (k : Keyword) (fields : List (List ℕ)) (q : Plan) (lines : List (List ℕ))
+    → with_command p k fields ≡ Some q → Shows kinds (Some p) lines → ShowsMore kinds lines (keyword_text k ∷ fields) q
 unfolding with_command command_text
-with_command_shows p k fields q lines e (spelled, is) =
+with_command_shows kinds p k fields q lines e (spelled, is) =
     let make : Command → Option Plan = λ c. Some (record p { commands = p.commands ++ c ∷ [] }) in
     let (c, (read, some)) = bind_some make (command_of p.frames p.liars k fields) q e in
     let next : Plan = record p { commands = p.commands ++ c ∷ [] } in
     let same : next ≡ q = cc in
     let said = command_of-sound p.frames p.liars k fields c read in
-    let lawful : IsPlan next = record {
+    let lawful : IsPlan kinds next = record {
       setup =
           record {
+            kind = is.setup.kind;
             enough = is.setup.enough;
             bounded = is.setup.bounded;
             tolerant = is.setup.tolerant;
@@ -91,11 +92,11 @@ with_command_shows p k fields q lines e (spelled, is) =
           };
       commands = all_by_recursion_push (IsCommand p.frames p.liars) p.commands c is.commands said.1;
     } in
-    subst (λ (x : Plan). ShowsMore lines (keyword_text k ∷ fields) x) same (record {
+    subst (λ (x : Plan). ShowsMore kinds lines (keyword_text k ∷ fields) x) same (record {
       spelled = ap (λ ls. ls ++ words_text (keyword_text k ∷ fields) ∷ []) spelled ∙ ap (λ ws. plan_lines p ++ words_text ws ∷ []) said.0
           ∙ sym (plan_lines-command p c);
       lawful = lawful;
-      visible = subst IsWords (sym said.0) (words_of_command p.frames p.liars (liar_small p is) c said.1);
+      visible = subst IsWords (sym said.0) (words_of_command p.frames p.liars (liar_small kinds p is) c said.1);
     })
 
 -- a liar's line more, where no step stands
@@ -128,9 +129,10 @@ turned n (x ∷ liars) e = by_test (x == n) refl e (turned n liars)
     by_test false is e later = let other : nat_eq n x ≡ false = nat_eq_equiv.symm n x ∙ is in rw other (later e)
 
 -- where one more is named a liar
-liar_lawful : (p : Plan) (n : ℕ) → IsPlan p → MayLie p n → IsPlan (record p { liars = p.liars ++ n ∷ [] })
-liar_lawful p n is may = record {
+liar_lawful : (kinds : AppKinds) (p : Plan) (n : ℕ) → IsPlan kinds p → MayLie p n → IsPlan kinds (record p { liars = p.liars ++ n ∷ [] })
+liar_lawful kinds p n is may = record {
   setup = record {
+    kind = is.setup.kind;
     enough = is.setup.enough;
     bounded = is.setup.bounded;
     tolerant = is.setup.tolerant;
@@ -141,15 +143,15 @@ liar_lawful p n is may = record {
   commands = subst (λ (cs : List Command). AllByRecursion (IsCommand p.frames (p.liars ++ n ∷ [])) cs) (sym may.no_steps) tt;
 }
 
-with_liar_shows : (p : Plan) (fields : List (List ℕ)) (q : Plan) (lines : List (List ℕ)) → with_liar p fields ≡ Some q
-    → Shows (Some p) lines → ShowsMore lines (codes "liar" ∷ fields) q
-with_liar_shows p fields q lines e (spelled, is) =
+with_liar_shows : (kinds : AppKinds) (p : Plan) (fields : List (List ℕ)) (q : Plan) (lines : List (List ℕ)) → with_liar p fields ≡ Some q
+    → Shows kinds (Some p) lines → ShowsMore kinds lines (codes "liar" ∷ fields) q
+with_liar_shows kinds p fields q lines e (spelled, is) =
     let takes = with_liar-sound p fields q e in
-    subst (λ (x : Plan). ShowsMore lines (codes "liar" ∷ fields) x) (sym takes.taken) (record {
+    subst (λ (x : Plan). ShowsMore kinds lines (codes "liar" ∷ fields) x) (sym takes.taken) (record {
       spelled = ap (λ ls. ls ++ words_text (codes "liar" ∷ fields) ∷ []) spelled
           ∙ ap (λ fs. plan_lines p ++ words_text (codes "liar" ∷ fs) ∷ []) takes.spelled
           ∙ sym (plan_lines-liar p takes.liar takes.may.no_steps);
-      lawful = liar_lawful p takes.liar is takes.may;
+      lawful = liar_lawful kinds p takes.liar is takes.may;
       visible = subst (λ fs. IsWords (codes "liar" ∷ fs)) (sym takes.spelled)
           (seen_word (codes "liar") refl, (IsWord-number_text takes.liar takes.small, tt));
     })
@@ -180,17 +182,18 @@ plan_lines-frames p early =
     rw (early.no_liars, early.no_steps) (append-nil _ ∙ append-nil _) in
     last ∙ ap (λ (ls : List (List ℕ)). ls ++ line ∷ []) (sym (early_lines p early))
 
-with_keys_shows : (p : Plan) (fields : List (List ℕ)) (q : Plan) (lines : List (List ℕ)) → with_keys p fields ≡ Some q
-    → Shows (Some p) lines → ShowsMore lines (codes "keys" ∷ fields) q
-with_keys_shows p fields q lines e (spelled, is) =
+with_keys_shows : (kinds : AppKinds) (p : Plan) (fields : List (List ℕ)) (q : Plan) (lines : List (List ℕ)) → with_keys p fields ≡ Some q
+    → Shows kinds (Some p) lines → ShowsMore kinds lines (codes "keys" ∷ fields) q
+with_keys_shows kinds p fields q lines e (spelled, is) =
     let takes = with_keys-sound p fields q e in
     let small = params_small takes.keys in
-    subst (λ (x : Plan). ShowsMore lines (codes "keys" ∷ fields) x) (sym takes.taken) (record {
+    subst (λ (x : Plan). ShowsMore kinds lines (codes "keys" ∷ fields) x) (sym takes.taken) (record {
       spelled = ap (λ ls. ls ++ words_text (codes "keys" ∷ fields) ∷ []) spelled
           ∙ ap (λ ws. plan_lines p ++ words_text ws ∷ []) takes.spelled
           ∙ sym (plan_lines-keys p takes.keys takes.none takes.early);
       lawful = record {
         setup = record {
+          kind = is.setup.kind;
           enough = is.setup.enough;
           bounded = is.setup.bounded;
           tolerant = is.setup.tolerant;
@@ -208,16 +211,17 @@ with_keys_shows p fields q lines e (spelled, is) =
     })
 
 -- a version
-with_frames_shows : (p : Plan) (fields : List (List ℕ)) (q : Plan) (lines : List (List ℕ)) → with_frames p fields ≡ Some q
-    → Shows (Some p) lines → ShowsMore lines (codes "frames" ∷ fields) q
-with_frames_shows p fields q lines e (spelled, is) =
+with_frames_shows : (kinds : AppKinds) (p : Plan) (fields : List (List ℕ)) (q : Plan) (lines : List (List ℕ)) → with_frames p fields ≡ Some q
+    → Shows kinds (Some p) lines → ShowsMore kinds lines (codes "frames" ∷ fields) q
+with_frames_shows kinds p fields q lines e (spelled, is) =
     let takes = with_frames-sound p fields q e in
-    subst (λ (x : Plan). ShowsMore lines (codes "frames" ∷ fields) x) (sym takes.taken) (record {
+    subst (λ (x : Plan). ShowsMore kinds lines (codes "frames" ∷ fields) x) (sym takes.taken) (record {
       spelled = ap (λ ls. ls ++ words_text (codes "frames" ∷ fields) ∷ []) spelled
           ∙ ap (λ fs. plan_lines p ++ words_text (codes "frames" ∷ fs) ∷ []) takes.spelled
           ∙ sym (plan_lines-frames p takes.early);
       lawful = record {
         setup = record {
+          kind = is.setup.kind;
           enough = is.setup.enough;
           bounded = is.setup.bounded;
           tolerant = is.setup.tolerant;
@@ -232,10 +236,10 @@ with_frames_shows p fields q lines e (spelled, is) =
     })
 
 -- the words of a cluster
-pub config_visible : (replicas faults : ℕ) (kind : AppKind) → IsSetup (cluster replicas faults kind)
+pub config_visible : (kinds : AppKinds) (replicas faults : ℕ) (kind : AppKind) → IsSetup kinds (cluster replicas faults kind)
     → IsWords (config_words replicas faults kind)
 unfolding cluster
-config_visible replicas faults kind is = (
+config_visible kinds replicas faults kind is = (
   seen_word (codes "config") refl,
   (
     IsWord-number_text replicas (omega (arith, is.bounded)),
@@ -247,70 +251,70 @@ config_visible replicas faults kind is = (
 )
 
 -- the cluster
-config_shows : (fields : List (List ℕ)) (q : Plan) (lines : List (List ℕ)) → first_plan keyword.Config fields ≡ Some q → lines ≡ []
-    → ShowsMore lines (codes "config" ∷ fields) q
+config_shows : (kinds : AppKinds) (fields : List (List ℕ)) (q : Plan) (lines : List (List ℕ)) → first_plan kinds keyword.Config fields ≡ Some q → lines ≡ []
+    → ShowsMore kinds lines (codes "config" ∷ fields) q
 unfolding first_plan plan_lines cluster
-config_shows fields q lines e none =
-    let (replicas, (faults, (kind, (spelled, (same, is))))) = begun_of-sound fields q e in
-    subst (λ (x : Plan). ShowsMore lines (codes "config" ∷ fields) x) (sym same) (record {
+config_shows kinds fields q lines e none =
+    let (replicas, (faults, (kind, (spelled, (same, is))))) = begun_of-sound kinds fields q e in
+    subst (λ (x : Plan). ShowsMore kinds lines (codes "config" ∷ fields) x) (sym same) (record {
       spelled = ap (λ ls. ls ++ words_text (codes "config" ∷ fields) ∷ []) none ∙ ap (λ ws. words_text ws ∷ []) spelled;
       lawful = record { setup = is; commands = tt };
-      visible = subst IsWords (sym spelled) (config_visible replicas faults kind is);
+      visible = subst IsWords (sym spelled) (config_visible kinds replicas faults kind is);
     })
 
 -- a line by its keyword
-keyword_shows : (s : Option Plan) (k : Keyword) (fields : List (List ℕ)) (q : Plan) (lines : List (List ℕ))
-    → next_by_keyword s k fields ≡ Some q → Shows s lines → ShowsMore lines (keyword_text k ∷ fields) q
+keyword_shows : (kinds : AppKinds) (s : Option Plan) (k : Keyword) (fields : List (List ℕ)) (q : Plan) (lines : List (List ℕ))
+    → next_by_keyword kinds s k fields ≡ Some q → Shows kinds s lines → ShowsMore kinds lines (keyword_text k ∷ fields) q
 unfolding next_by_keyword going_on first_plan
-keyword_shows None keyword.Config fields q lines e shows = config_shows fields q lines e shows
-keyword_shows None keyword.Keys fields q lines e shows = absurd cc
-keyword_shows None keyword.Frames fields q lines e shows = absurd cc
-keyword_shows None keyword.Liar fields q lines e shows = absurd cc
-keyword_shows None keyword.Submit fields q lines e shows = absurd cc
-keyword_shows None keyword.Propose fields q lines e shows = absurd cc
-keyword_shows None keyword.End fields q lines e shows = absurd cc
-keyword_shows None keyword.Pass fields q lines e shows = absurd cc
-keyword_shows None keyword.Inject fields q lines e shows = absurd cc
-keyword_shows None keyword.Execute fields q lines e shows = absurd cc
-keyword_shows None keyword.Query fields q lines e shows = absurd cc
-keyword_shows None keyword.Retire fields q lines e shows = absurd cc
-keyword_shows None keyword.Info fields q lines e shows = absurd cc
-keyword_shows None keyword.Silent fields q lines e shows = absurd cc
-keyword_shows None keyword.Round fields q lines e shows = absurd cc
-keyword_shows None keyword.LieReport fields q lines e shows = absurd cc
-keyword_shows None keyword.LieLock fields q lines e shows = absurd cc
-keyword_shows None keyword.LieStale fields q lines e shows = absurd cc
-keyword_shows None keyword.LieAck fields q lines e shows = absurd cc
-keyword_shows (Some p) keyword.Config fields q lines e shows = absurd cc
-keyword_shows (Some p) keyword.Keys fields q lines e shows = with_keys_shows p fields q lines e shows
-keyword_shows (Some p) keyword.Frames fields q lines e shows = with_frames_shows p fields q lines e shows
-keyword_shows (Some p) keyword.Liar fields q lines e shows = with_liar_shows p fields q lines e shows
-keyword_shows (Some p) keyword.Submit fields q lines e shows = with_command_shows p keyword.Submit fields q lines e shows
-keyword_shows (Some p) keyword.Propose fields q lines e shows = with_command_shows p keyword.Propose fields q lines e shows
-keyword_shows (Some p) keyword.End fields q lines e shows = with_command_shows p keyword.End fields q lines e shows
-keyword_shows (Some p) keyword.Pass fields q lines e shows = with_command_shows p keyword.Pass fields q lines e shows
-keyword_shows (Some p) keyword.Inject fields q lines e shows = with_command_shows p keyword.Inject fields q lines e shows
-keyword_shows (Some p) keyword.Execute fields q lines e shows = with_command_shows p keyword.Execute fields q lines e shows
-keyword_shows (Some p) keyword.Query fields q lines e shows = with_command_shows p keyword.Query fields q lines e shows
-keyword_shows (Some p) keyword.Retire fields q lines e shows = with_command_shows p keyword.Retire fields q lines e shows
-keyword_shows (Some p) keyword.Info fields q lines e shows = with_command_shows p keyword.Info fields q lines e shows
-keyword_shows (Some p) keyword.Silent fields q lines e shows = with_command_shows p keyword.Silent fields q lines e shows
-keyword_shows (Some p) keyword.Round fields q lines e shows = with_command_shows p keyword.Round fields q lines e shows
-keyword_shows (Some p) keyword.LieReport fields q lines e shows = with_command_shows p keyword.LieReport fields q lines e shows
-keyword_shows (Some p) keyword.LieLock fields q lines e shows = with_command_shows p keyword.LieLock fields q lines e shows
-keyword_shows (Some p) keyword.LieStale fields q lines e shows = with_command_shows p keyword.LieStale fields q lines e shows
-keyword_shows (Some p) keyword.LieAck fields q lines e shows = with_command_shows p keyword.LieAck fields q lines e shows
+keyword_shows kinds None keyword.Config fields q lines e shows = config_shows kinds fields q lines e shows
+keyword_shows kinds None keyword.Keys fields q lines e shows = absurd cc
+keyword_shows kinds None keyword.Frames fields q lines e shows = absurd cc
+keyword_shows kinds None keyword.Liar fields q lines e shows = absurd cc
+keyword_shows kinds None keyword.Submit fields q lines e shows = absurd cc
+keyword_shows kinds None keyword.Propose fields q lines e shows = absurd cc
+keyword_shows kinds None keyword.End fields q lines e shows = absurd cc
+keyword_shows kinds None keyword.Pass fields q lines e shows = absurd cc
+keyword_shows kinds None keyword.Inject fields q lines e shows = absurd cc
+keyword_shows kinds None keyword.Execute fields q lines e shows = absurd cc
+keyword_shows kinds None keyword.Query fields q lines e shows = absurd cc
+keyword_shows kinds None keyword.Retire fields q lines e shows = absurd cc
+keyword_shows kinds None keyword.Info fields q lines e shows = absurd cc
+keyword_shows kinds None keyword.Silent fields q lines e shows = absurd cc
+keyword_shows kinds None keyword.Round fields q lines e shows = absurd cc
+keyword_shows kinds None keyword.LieReport fields q lines e shows = absurd cc
+keyword_shows kinds None keyword.LieLock fields q lines e shows = absurd cc
+keyword_shows kinds None keyword.LieStale fields q lines e shows = absurd cc
+keyword_shows kinds None keyword.LieAck fields q lines e shows = absurd cc
+keyword_shows kinds (Some p) keyword.Config fields q lines e shows = absurd cc
+keyword_shows kinds (Some p) keyword.Keys fields q lines e shows = with_keys_shows kinds p fields q lines e shows
+keyword_shows kinds (Some p) keyword.Frames fields q lines e shows = with_frames_shows kinds p fields q lines e shows
+keyword_shows kinds (Some p) keyword.Liar fields q lines e shows = with_liar_shows kinds p fields q lines e shows
+keyword_shows kinds (Some p) keyword.Submit fields q lines e shows = with_command_shows kinds p keyword.Submit fields q lines e shows
+keyword_shows kinds (Some p) keyword.Propose fields q lines e shows = with_command_shows kinds p keyword.Propose fields q lines e shows
+keyword_shows kinds (Some p) keyword.End fields q lines e shows = with_command_shows kinds p keyword.End fields q lines e shows
+keyword_shows kinds (Some p) keyword.Pass fields q lines e shows = with_command_shows kinds p keyword.Pass fields q lines e shows
+keyword_shows kinds (Some p) keyword.Inject fields q lines e shows = with_command_shows kinds p keyword.Inject fields q lines e shows
+keyword_shows kinds (Some p) keyword.Execute fields q lines e shows = with_command_shows kinds p keyword.Execute fields q lines e shows
+keyword_shows kinds (Some p) keyword.Query fields q lines e shows = with_command_shows kinds p keyword.Query fields q lines e shows
+keyword_shows kinds (Some p) keyword.Retire fields q lines e shows = with_command_shows kinds p keyword.Retire fields q lines e shows
+keyword_shows kinds (Some p) keyword.Info fields q lines e shows = with_command_shows kinds p keyword.Info fields q lines e shows
+keyword_shows kinds (Some p) keyword.Silent fields q lines e shows = with_command_shows kinds p keyword.Silent fields q lines e shows
+keyword_shows kinds (Some p) keyword.Round fields q lines e shows = with_command_shows kinds p keyword.Round fields q lines e shows
+keyword_shows kinds (Some p) keyword.LieReport fields q lines e shows = with_command_shows kinds p keyword.LieReport fields q lines e shows
+keyword_shows kinds (Some p) keyword.LieLock fields q lines e shows = with_command_shows kinds p keyword.LieLock fields q lines e shows
+keyword_shows kinds (Some p) keyword.LieStale fields q lines e shows = with_command_shows kinds p keyword.LieStale fields q lines e shows
+keyword_shows kinds (Some p) keyword.LieAck fields q lines e shows = with_command_shows kinds p keyword.LieAck fields q lines e shows
 
 -- by its words
-words_show : (s : Option Plan) (words : List (List ℕ)) (q : Plan) (lines : List (List ℕ)) → next_by_words s words ≡ Some q → Shows s lines
-    → ShowsMore lines words q
+words_show : (kinds : AppKinds) (s : Option Plan) (words : List (List ℕ)) (q : Plan) (lines : List (List ℕ)) → next_by_words kinds s words ≡ Some q → Shows kinds s lines
+    → ShowsMore kinds lines words q
 unfolding next_by_words
-words_show s [] q lines e shows = absurd cc
-words_show s (word ∷ fields) q lines e shows =
-    let next : Keyword → Option Plan = λ k. next_by_keyword s k fields in
+words_show kinds s [] q lines e shows = absurd cc
+words_show kinds s (word ∷ fields) q lines e shows =
+    let next : Keyword → Option Plan = λ k. next_by_keyword kinds s k fields in
     let (k, (read, more)) = bind_some next (keyword_of word) q e in
     let spelled = keyword_of-sound word k read in
-    subst (λ (w : List ℕ). ShowsMore lines (w ∷ fields) q) (sym spelled) (keyword_shows s k fields q lines more shows)
+    subst (λ (w : List ℕ). ShowsMore kinds lines (w ∷ fields) q) (sym spelled) (keyword_shows kinds s k fields q lines more shows)
 
 -- the words of a line
 abbrev pub words_of : List ℕ → List (List ℕ)
@@ -350,21 +354,21 @@ ascii_text Q line (Err e) all (no_text, more) =
     small b h = grind (arith, nat_tests)
 
 -- a line more
-pub line_shows : (s : Option Plan) (line : List ℕ) (q : Plan) (lines : List (List ℕ)) → next_of s line ≡ Some q → Shows s lines
-    → ShowsMore lines (words_of line) q
+pub line_shows : (kinds : AppKinds) (s : Option Plan) (line : List ℕ) (q : Plan) (lines : List (List ℕ)) → next_of kinds s line ≡ Some q → Shows kinds s lines
+    → ShowsMore kinds lines (words_of line) q
 unfolding next_of
-line_shows s line q lines e shows =
-    let read : List ℕ → Option Plan = λ text. next_by_words s (words_of text) in
+line_shows kinds s line q lines e shows =
+    let read : List ℕ → Option Plan = λ text. next_by_words kinds s (words_of text) in
     let (text, (ascii, more)) = bind_some read (ascii_of line) q e in
     let same = ascii_line line text ascii in
-    words_show s (words_of line) q lines (ap read same ∙ more) shows
+    words_show kinds s (words_of line) q lines (ap read same ∙ more) shows
 
 -- a line that is written so is read by its keyword and its fields
-pub next_of-words : (s : Option Plan) (k : Keyword) (fields : List (List ℕ)) → IsWords (keyword_text k ∷ fields)
-    → next_of s (words_text (keyword_text k ∷ fields)) ≡ next_by_keyword s k fields
+pub next_of-words : (kinds : AppKinds) (s : Option Plan) (k : Keyword) (fields : List (List ℕ)) → IsWords (keyword_text k ∷ fields)
+    → next_of kinds s (words_text (keyword_text k ∷ fields)) ≡ next_by_keyword kinds s k fields
 unfolding next_of next_by_words
-next_of-words s k fields (first, all) =
-    let read : List ℕ → Option Plan = λ text. next_by_words s (words_of text) in
+next_of-words kinds s k fields (first, all) =
+    let read : List ℕ → Option Plan = λ text. next_by_words kinds s (words_of text) in
     ap (option_and_then read) (ascii_again (words_text (keyword_text k ∷ fields)) (small_words (keyword_text k ∷ fields) (first, all)))
-    ∙ ap (next_by_words s) (slice_split-join 32 (keyword_text k) fields (Lacks-word (keyword_text k) first) (Lacks-words fields all))
-    ∙ ap (option_and_then (λ x. next_by_keyword s x fields)) (keyword_of-again k)
+    ∙ ap (next_by_words kinds s) (slice_split-join 32 (keyword_text k) fields (Lacks-word (keyword_text k) first) (Lacks-words fields all))
+    ∙ ap (option_and_then (λ x. next_by_keyword kinds s x fields)) (keyword_of-again k)

@@ -1,4 +1,5 @@
 -- Lines before the commands are read back from their text.
+use Rattle.ledger_model.specs.declared.config.AppKinds.{AppKinds}
 use Rattle.std.proofs.Common.{◌≡◌, ◌∙◌, ℕ, ◌+◌, ◌*◌, ◌<◌, Bool, true, false, cond, List, [], ◌∷◌, ◌++◌, length, refl, sym, ap, arith}
 use Rattle.std.specs.Prelude.{◌==◌, nat_lt, nat_le, not, ◌&&◌, codes, Option, Some, None, is_some, option_and_then}
 use Rattle.std.specs.List.{list_any, IsDistinct}
@@ -8,7 +9,7 @@ use Rattle.std.proofs.lemmas.Slice.Eq.{bytes_eq-Decides}
 use Rattle.std.specs.Str.{bytes_eq}
 use Rattle.std.proofs.lemmas.Option.{cond_some}
 use Rattle.ledger_model.specs.declared.config.AppKind.{AppKind}
-use Rattle.ledger_model.specs.declared.config.AppKind.TheVariants.{KvStore, Counter, Purse}
+use Rattle.ledger_model.specs.declared.config.AppKind.TheVariants.{Own, KvStore, Counter, Purse}
 use Rattle.ledger_model.specs.declared.version.Version.{Version}
 use Rattle.ledger_model.specs.declared.version.Version.TheVariants as version
 use Rattle.lm_ots.specs.Parameters.{bits_of, levels_of}
@@ -18,7 +19,7 @@ use Rattle.lm_ots.specs.declared.params.TreeHeight.{TreeHeight}
 use Rattle.lm_ots.specs.declared.params.TreeHeight.TheVariants.{H5, H10}
 use Rattle.lm_ots.specs.declared.params.Params.{Params}
 use Rattle.plain_text.specs.Numbers.{number_text}
-use Rattle.ledger_model.specs.Numbers.{kind_number, kind_of_number}
+use Rattle.ledger_model.specs.Numbers.{has_kind, kind_number, kind_of_number}
 use Rattle.ledger_model.proofs.Numbers.{kind_again, kind_of_number-sound}
 use Rattle.scenario_texts.specs.Plans.{Plan}
 use Rattle.scenario_texts.specs.Lawful.{IsNumber, IsSetup}
@@ -67,6 +68,7 @@ is_new_liar-sound p n e =
 
 -- the number of an application is short
 pub kind_number-small : (kind : AppKind) → IsNumber (kind_number kind)
+kind_number-small Own = omega arith
 kind_number-small KvStore = omega arith
 kind_number-small Counter = omega arith
 kind_number-small Purse = omega arith
@@ -84,12 +86,14 @@ cluster replicas faults kind = record {
 }
 
 -- a cluster of such a size
-is_size-sound : (replicas faults : ℕ) (kind : AppKind) → is_size replicas faults ≡ true → IsSetup (cluster replicas faults kind)
+is_size-sound : (kinds : AppKinds) (replicas faults : ℕ) (kind : AppKind) → has_kind kinds kind ≡ true → is_size replicas faults ≡ true
+    → IsSetup kinds (cluster replicas faults kind)
 unfolding cluster IsDistinct
-is_size-sound replicas faults kind e =
+is_size-sound kinds replicas faults kind has e =
     let a = and_parts (nat_le (3 * faults + 1) replicas && nat_le replicas 13) (nat_le 1 faults) e in
     let b = and_parts (nat_le (3 * faults + 1) replicas) (nat_le replicas 13) a.0 in
     record {
+      kind = has;
       enough = leb-true (3 * faults + 1) replicas b.0;
       bounded = leb-true replicas 13 b.1;
       tolerant = leb-true 1 faults a.1;
@@ -99,28 +103,30 @@ is_size-sound replicas faults kind e =
     }
 
 -- the cluster that a line says
-pub begun_of-sound : (fields : List (List ℕ)) (p : Plan) → begun_of fields ≡ Some p
+pub begun_of-sound : (kinds : AppKinds) (fields : List (List ℕ)) (p : Plan) → begun_of kinds fields ≡ Some p
     → (replicas : ℕ) × ((faults : ℕ)
     × ((kind : AppKind) × ((codes "config" ∷ fields ≡ config_words replicas faults kind)
-    × ((p ≡ cluster replicas faults kind) × IsSetup (cluster replicas faults kind)))))
+    × ((p ≡ cluster replicas faults kind) × IsSetup kinds (cluster replicas faults kind)))))
 unfolding begun_of config_of cluster
-begun_of-sound fields p e =
+begun_of-sound kinds fields p e =
     let plan : ℕ × ℕ × AppKind → Plan = λ c. cluster c.0 c.1 c.2 in
-    let (c, (made, equal)) = map_some plan (config_of fields) p e in
-    let sized : ℕ × ℕ × ℕ → AppKind → Option (ℕ × ℕ × AppKind) = λ n kind. cond (is_size n.0 n.1) (Some (n.0, n.1, kind)) None in
+    let (c, (made, equal)) = map_some plan (config_of kinds fields) p e in
+    let sized : ℕ × ℕ × ℕ → AppKind → Option (ℕ × ℕ × AppKind) = λ n kind. cond (has_kind kinds kind && is_size n.0 n.1) (Some (n.0, n.1, kind)) None in
     let (n, (read, more)) = bind_some (λ (n : ℕ × ℕ × ℕ). option_and_then (sized n) (kind_of_number n.2)) (three_numbers fields) c made in
     let (kind, (named, fits)) = bind_some (sized n) (kind_of_number n.2) c more in
     let triple : ℕ × ℕ × AppKind = (n.0, n.1, kind) in
-    let (test, same) = cond_some (is_size n.0 n.1) triple c fits in
+    let (tests, same) = cond_some (has_kind kinds kind && is_size n.0 n.1) triple c fits in
+    let both = and_parts (has_kind kinds kind) (is_size n.0 n.1) tests in
     let spelled = three_numbers-sound fields n.0 n.1 n.2 read in
     let number : n.2 ≡ kind_number kind = kind_of_number-sound n.2 kind named in
-    (n.0, (n.1, (kind, (cc (spelled.0, number), (sym equal ∙ sym (ap plan same), is_size-sound n.0 n.1 kind test)))))
+    (n.0, (n.1, (kind, (cc (spelled.0, number), (sym equal ∙ sym (ap plan same), is_size-sound kinds n.0 n.1 kind both.0 both.1)))))
 
-pub begun_of-again : (p : Plan) → IsSetup p
-    → begun_of (number_text p.replicas ∷ number_text p.faults ∷ number_text (kind_number p.kind) ∷ [])
+pub begun_of-again : (kinds : AppKinds) (p : Plan) → IsSetup kinds p
+    → begun_of kinds (number_text p.replicas ∷ number_text p.faults ∷ number_text (kind_number p.kind) ∷ [])
     ≡ Some (cluster p.replicas p.faults p.kind)
 unfolding begun_of config_of cluster
-begun_of-again p is =
+begun_of-again kinds p is =
+    let has : has_kind kinds p.kind ≡ true = is.kind in
     let enough : nat_le (3 * p.faults + 1) p.replicas ≡ true = grind (arith, nat_tests, is.enough) in
     let bounded : nat_le p.replicas 13 ≡ true = grind (arith, nat_tests, is.bounded) in
     let tolerant : nat_le 1 p.faults ≡ true = grind (arith, nat_tests, is.tolerant) in
@@ -129,6 +135,7 @@ begun_of-again p is =
     rw (
       three_numbers-again p.replicas p.faults (kind_number p.kind) few fewer (kind_number-small p.kind),
       kind_again p.kind,
+      has,
       enough,
       bounded,
       tolerant,

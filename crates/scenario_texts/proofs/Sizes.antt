@@ -1,4 +1,5 @@
 -- Texts that are too large, and texts that are read byte by byte.
+use Rattle.ledger_model.specs.declared.config.AppKinds.{AppKinds}
 use Rattle.std.proofs.Common.{◌≡◌, ◌∙◌, ℕ, ◌+◌, ◌<◌, ◌≤◌, Bool, true, false, List, [], ◌∷◌, ◌++◌, length, refl, sym, ap, subst, inl, inr}
 use Rattle.std.proofs.Common.{append_assoc, append-nil, arith, take, drop, get_or, suc}
 use Rattle.std.specs.Prelude.{◌≢◌, ◌⊎◌, ◌==◌}
@@ -217,8 +218,8 @@ large_under_way text before rest large whole u w few short =
     from_none (inr (many, some)) = inr (omega (arith, many), some)
 
 -- no text that is too large spells a plan
-pub large_spells_none : (text : List ℕ) (p : Plan) → IsTooLarge text → SpellsPlan text p → ⊥
-large_spells_none text p large spells =
+pub large_spells_none : (kinds : AppKinds) (text : List ℕ) (p : Plan) → IsTooLarge text → SpellsPlan kinds text p → ⊥
+large_spells_none kinds text p large spells =
     none (large_under_way text spells.lines [] large (spells.whole ∙ sym (append-nil (flat_map whole_line spells.lines))) spells.unbroken
     none_unbroken spells.few (each_at_most [] spells.lines spells.short))
   where
@@ -249,8 +250,8 @@ unbroken_both : (a b : List ℕ) → IsUnbroken a → IsUnbroken b → IsUnbroke
 unbroken_both a b u v = All-append (λ c. c ≢ 10) a b u v
 
 -- where a text is too large, its first bad line is the same one however it goes on
-pub bad_anyway : (text more : List ℕ) (n : ℕ) → IsTooLarge text → IsBadAt text n → IsBadAt (text ++ more) n
-bad_anyway text more n large at = record {
+pub bad_anyway : (kinds : AppKinds) (text more : List ℕ) (n : ℕ) → IsTooLarge text → IsBadAt kinds text n → IsBadAt kinds (text ++ more) n
+bad_anyway kinds text more n large at = record {
   before = at.before;
   rest = at.rest ++ more;
   whole = behind at.before text at.rest more at.whole;
@@ -261,13 +262,13 @@ bad_anyway text more n large at = record {
   bad = goes at.bad;
 }
   where
-    not_short : max_line_len < length at.rest → (line : List ℕ) → IsPlanSoFar (at.before ++ (at.rest ++ line) ∷ []) → ⊥
+    not_short : max_line_len < length at.rest → (line : List ℕ) → IsPlanSoFar kinds (at.before ++ (at.rest ++ line) ∷ []) → ⊥
     not_short long line on =
         let within : length (at.rest ++ line) ≤ line_limit at.before = on.short at.before [] (at.rest ++ line) refl in
         omega (arith, long, within, limit_most at.before, length-append at.rest line)
 
     by_split : IsUnbroken at.rest → (max_line_len < length at.rest) ⊎ ((max_lines ≤ length at.before) × (1 ≤ length at.rest))
-        → IsSplit more → FollowsBad at.before (at.rest ++ more) ⊎ EndsBadly at.before (at.rest ++ more)
+        → IsSplit more → FollowsBad kinds at.before (at.rest ++ more) ⊎ EndsBadly at.before (at.rest ++ more)
     by_split u why (has_none v) = inr (record { unended = unbroken_both at.rest more u v; bad = inl (some why) })
       where
         some : (max_line_len < length at.rest) ⊎ ((max_lines ≤ length at.before) × (1 ≤ length at.rest)) → at.rest ++ more ≢ []
@@ -282,12 +283,12 @@ bad_anyway text more n large at = record {
     })
       where
         reason : (max_line_len < length at.rest) ⊎ ((max_lines ≤ length at.before) × (1 ≤ length at.rest))
-            → (max_lines ≤ length at.before) ⊎ (IsPlanSoFar (at.before ++ (at.rest ++ line) ∷ []) → ⊥)
+            → (max_lines ≤ length at.before) ⊎ (IsPlanSoFar kinds (at.before ++ (at.rest ++ line) ∷ []) → ⊥)
         reason (inl long) = inr (not_short long line)
         reason (inr (many, one)) = inl many
 
-    goes : FollowsBad at.before at.rest ⊎ EndsBadly at.before at.rest
-        → FollowsBad at.before (at.rest ++ more) ⊎ EndsBadly at.before (at.rest ++ more)
+    goes : FollowsBad kinds at.before at.rest ⊎ EndsBadly at.before at.rest
+        → FollowsBad kinds at.before (at.rest ++ more) ⊎ EndsBadly at.before (at.rest ++ more)
     goes (inl bad) = inl (record {
       line = bad.line;
       after = bad.after ++ more;

@@ -1,7 +1,9 @@
 -- Which plans have a text.
-use Rattle.std.specs.Prelude.{ℕ, ◌+◌, ◌*◌, ◌^◌, ◌<◌, ◌≤◌, ◌≡◌, nat_eq, List, length, Contains}
+use Rattle.ledger_model.specs.declared.config.AppKinds.{AppKinds}
+use Rattle.std.specs.Prelude.{ℕ, ◌+◌, ◌*◌, ◌^◌, ◌<◌, ◌≤◌, ◌≡◌, nat_eq, IsTrue, List, length, Contains}
 use Rattle.std.specs.List.{AllByRecursion, IsDistinct}
 use Rattle.ledger_model.specs.Limits.{max_key_len}
+use Rattle.ledger_model.specs.Numbers.{has_kind}
 use Rattle.ledger_model.specs.Values.{IsByte, IsValueIn}
 use Rattle.ledger_model.specs.declared.version.Version.{Version}
 use Rattle.scenario_texts.specs.Plans.{Plan}
@@ -51,8 +53,9 @@ IsCommand version liars (command.LieLock lie) = IsLie version liars lie
 IsCommand version liars (command.LieStale lie source) = IsLie version liars lie × (1 ≤ source) × IsNumber source
 IsCommand version liars (command.LieAck lie) = IsLie version liars lie
 
--- the size of the cluster is allowed, and at most as many replicas lie as may, each named once
-pub record IsSetup (p : Plan) : Type 0 where
+-- the program has the application's kind, the size of the cluster is allowed, and at most as many replicas lie as may, each named once
+pub record IsSetup (kinds : AppKinds) (p : Plan) : Type 0 where
+  pub kind : IsTrue (has_kind kinds p.kind)
   pub enough : 3 * p.faults + 1 ≤ p.replicas
   pub bounded : p.replicas ≤ 13
   pub tolerant : 1 ≤ p.faults
@@ -60,7 +63,7 @@ pub record IsSetup (p : Plan) : Type 0 where
   pub replicas : AllByRecursion (λ liar. liar < p.replicas) p.liars
   pub different : IsDistinct nat_eq p.liars
 
--- a plan that can be written
-pub record IsPlan (p : Plan) : Type 0 where
-  pub setup : IsSetup p
+-- a plan that can be written for a program that has these kinds of applications
+pub record IsPlan (kinds : AppKinds) (p : Plan) : Type 0 where
+  pub setup : IsSetup kinds p
   pub commands : AllByRecursion (IsCommand p.frames p.liars) p.commands

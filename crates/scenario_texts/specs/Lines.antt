@@ -1,4 +1,5 @@
 -- The lines of a text, and which text encodes a plan.
+use Rattle.ledger_model.specs.declared.config.AppKinds.{AppKinds}
 use Rattle.std.specs.Prelude.{◌≡◌, ◌≢◌, ◌⊎◌, ℕ, ◌+◌, ◌<◌, ◌≤◌, ◌==◌, not, Bool, true, false, List, [], ◌∷◌, ◌++◌, length, filter, codes}
 use Rattle.std.specs.Prelude.{if◌then◌else◌}
 use Rattle.std.specs.List.{flat_map, list_any, All, AllByRecursion}
@@ -49,15 +50,15 @@ counted_lines lines = filter counts lines
 abbrev pub AreWithinLengths : List (List ℕ) → Type 0
 AreWithinLengths lines = (before after : List (List ℕ)) (line : List ℕ) → lines ≡ before ++ line ∷ after → length line ≤ line_limit before
 
--- the text encodes the plan
-pub record SpellsPlan (text : List ℕ) (p : Plan) : Type 0 where
+-- the text encodes the plan, for a program that has these kinds of applications
+pub record SpellsPlan (kinds : AppKinds) (text : List ℕ) (p : Plan) : Type 0 where
   pub lines : List (List ℕ)
   pub whole : text ≡ flat_map whole_line lines
   pub unbroken : AllByRecursion IsUnbroken lines
   pub few : length lines ≤ max_lines
   pub short : AreWithinLengths lines
   pub those : counted_lines lines ≡ plan_lines p
-  pub lawful : IsPlan p
+  pub lawful : IsPlan kinds p
 
 -- `count` has the number of lines that a line feed ended, and the number of bytes after the last line feed
 pub record HasLines (text : List ℕ) (count : LineCount) : Type 0 where
@@ -89,17 +90,17 @@ IsCounted true text count = HasLines text count
 IsCounted false text count = IsTooLarge text
 
 -- nothing is wrong so far: none of these lines counts, or those that count are the lines of a plan
-pub record IsPlanSoFar (lines : List (List ℕ)) : Type 0 where
+pub record IsPlanSoFar (kinds : AppKinds) (lines : List (List ℕ)) : Type 0 where
   pub short : AreWithinLengths lines
-  pub begun : (counted_lines lines ≡ []) ⊎ ((p : Plan) × ((counted_lines lines ≡ plan_lines p) × IsPlan p))
+  pub begun : (counted_lines lines ≡ []) ⊎ ((p : Plan) × ((counted_lines lines ≡ plan_lines p) × IsPlan kinds p))
 
 -- a bad line follows these: it is one too many, or a plan can't continue with it
-pub record FollowsBad (lines : List (List ℕ)) (rest : List ℕ) : Type 0 where
+pub record FollowsBad (kinds : AppKinds) (lines : List (List ℕ)) (rest : List ℕ) : Type 0 where
   pub line : List ℕ
   pub after : List ℕ
   pub ends : rest ≡ whole_line line ++ after
   pub unbroken : IsUnbroken line
-  pub bad : (max_lines ≤ length lines) ⊎ (IsPlanSoFar (lines ++ line ∷ []) → ⊥)
+  pub bad : (max_lines ≤ length lines) ⊎ (IsPlanSoFar kinds (lines ++ line ∷ []) → ⊥)
 
 -- the text may not end after these lines: bytes follow the last line feed, or no line counts
 pub record EndsBadly (lines : List (List ℕ)) (rest : List ℕ) : Type 0 where
@@ -107,12 +108,12 @@ pub record EndsBadly (lines : List (List ℕ)) (rest : List ℕ) : Type 0 where
   pub bad : (rest ≢ []) ⊎ (counted_lines lines ≡ [])
 
 -- line n of the text, from 1 on, is the first bad one
-pub record IsBadAt (text : List ℕ) (n : ℕ) : Type 0 where
+pub record IsBadAt (kinds : AppKinds) (text : List ℕ) (n : ℕ) : Type 0 where
   pub before : List (List ℕ)
   pub rest : List ℕ
   pub whole : text ≡ flat_map whole_line before ++ rest
   pub unbroken : AllByRecursion IsUnbroken before
   pub few : length before ≤ max_lines
   pub numbered : n ≡ length before + 1
-  pub goes_on : IsPlanSoFar before
-  pub bad : FollowsBad before rest ⊎ EndsBadly before rest
+  pub goes_on : IsPlanSoFar kinds before
+  pub bad : FollowsBad kinds before rest ⊎ EndsBadly before rest

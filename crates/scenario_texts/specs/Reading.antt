@@ -1,5 +1,6 @@
 -- What words and lines read as, by the functions of this crate. That reading inverts writing is proved in `proofs/`; no
 -- public clause cites this file.
+use Rattle.ledger_model.specs.declared.config.AppKinds.{AppKinds}
 use Rattle.std.specs.Prelude.{ℕ, zero, suc, ◌+◌, ◌*◌, ◌^◌, ◌≤◌, ◌==◌, nat_lt, nat_le, Bool, true, false, not, ◌&&◌, List, [], ◌∷◌}
 use Rattle.std.specs.Prelude.{◌++◌, length, codes}
 use Rattle.std.specs.Prelude.{Option, Some, None, is_some, option_and_then, if◌then◌else◌}
@@ -17,7 +18,7 @@ use Rattle.ledger_model.specs.declared.version.Version.{Version}
 use Rattle.ledger_model.specs.declared.version.Version.TheVariants as version
 use Rattle.ledger_model.specs.Values.{Value}
 use Rattle.ledger_model.specs.declared.config.AppKind.{AppKind}
-use Rattle.ledger_model.specs.Numbers.{kind_of_number}
+use Rattle.ledger_model.specs.Numbers.{has_kind, kind_of_number}
 use Rattle.lm_ots.specs.declared.params.Width.TheVariants.{W4, W8}
 use Rattle.lm_ots.specs.declared.params.TreeHeight.TheVariants.{H5, H10}
 use Rattle.lm_ots.specs.declared.params.Params.{Params}
@@ -286,16 +287,16 @@ command_of version liars k fields = simple_of k fields
 abbrev pub is_size : ℕ → ℕ → Bool
 is_size replicas faults = nat_le (3 * faults + 1) replicas && nat_le replicas 13 && nat_le 1 faults
 
--- the cluster of a line
-unfoldable pub config_of : List (List ℕ) → Option (ℕ × ℕ × AppKind)
-config_of fields = do
+-- the cluster of a line, for a program that has these kinds of applications
+unfoldable pub config_of : AppKinds → List (List ℕ) → Option (ℕ × ℕ × AppKind)
+config_of kinds fields = do
   n ← three_numbers fields
   kind ← kind_of_number n.2
-  if is_size n.0 n.1 then Some (n.0, n.1, kind) else None
+  if has_kind kinds kind && is_size n.0 n.1 then Some (n.0, n.1, kind) else None
 
 -- the plan that consists of the cluster
-unfoldable pub begun_of : List (List ℕ) → Option Plan
-begun_of fields = option_map (λ c. record {
+unfoldable pub begun_of : AppKinds → List (List ℕ) → Option Plan
+begun_of kinds fields = option_map (λ c. record {
   replicas = c.0;
   faults = c.1;
   kind = c.2;
@@ -303,7 +304,7 @@ begun_of fields = option_map (λ c. record {
   frames = version.One;
   liars = [];
   commands = [];
-}) (config_of fields)
+}) (config_of kinds fields)
 
 -- the parameter set of a width and a height of the tree
 unfoldable pub params_from : ℕ × ℕ → Option Params
@@ -359,31 +360,31 @@ going_on p keyword.Liar fields = with_liar p fields
 going_on p k fields = with_command p k fields
 
 -- the plan that starts with this line
-unfoldable pub first_plan : Keyword → List (List ℕ) → Option Plan
-first_plan keyword.Config fields = begun_of fields
-first_plan _ fields = None
+unfoldable pub first_plan : AppKinds → Keyword → List (List ℕ) → Option Plan
+first_plan kinds keyword.Config fields = begun_of kinds fields
+first_plan kinds _ fields = None
 
 -- the plan after one more line, given the line's keyword and fields; the first line starts it
-unfoldable pub next_by_keyword : Option Plan → Keyword → List (List ℕ) → Option Plan
-next_by_keyword None k fields = first_plan k fields
-next_by_keyword (Some p) k fields = going_on p k fields
+unfoldable pub next_by_keyword : AppKinds → Option Plan → Keyword → List (List ℕ) → Option Plan
+next_by_keyword kinds None k fields = first_plan kinds k fields
+next_by_keyword kinds (Some p) k fields = going_on p k fields
 
 -- the plan after one more line, given the line's words
-unfoldable pub next_by_words : Option Plan → List (List ℕ) → Option Plan
-next_by_words so_far [] = None
-next_by_words so_far (word ∷ fields) = do
+unfoldable pub next_by_words : AppKinds → Option Plan → List (List ℕ) → Option Plan
+next_by_words kinds so_far [] = None
+next_by_words kinds so_far (word ∷ fields) = do
   k ← keyword_of word
-  next_by_keyword so_far k fields
+  next_by_keyword kinds so_far k fields
 
 -- the line, if each byte of it is ASCII
 unfoldable pub ascii_of : List ℕ → Option (List ℕ)
 ascii_of line = if list_all is_ascii line then Some line else None
 
 -- the plan after one more line
-unfoldable pub next_of : Option Plan → List ℕ → Option Plan
-next_of so_far line = do
+unfoldable pub next_of : AppKinds → Option Plan → List ℕ → Option Plan
+next_of kinds so_far line = do
   text ← ascii_of line
-  next_by_words so_far (slice_split (λ b. b == 32) text)
+  next_by_words kinds so_far (slice_split (λ b. b == 32) text)
 
 -- the most bytes of the next line after the lines that gave this plan
 abbrev pub limit_after : Option Plan → ℕ

@@ -11,15 +11,15 @@ use crate::fields::{one_number, two_numbers};
 use crate::keyword::{Keyword, keyword_of};
 use crate::scenario::{Scenario, Setup};
 use crate::setup_reading::{config, params};
-use ledger_model::{ReplicaId, Version};
+use ledger_model::{AppKinds, ReplicaId, Version};
 use std::alloc::{AllocError, Global};
 
 /// The scenario that consists of the cluster.
 #[tactic(auto, unfolding(crate::specs::Reading::begun_of))]
-fn begun(alloc: Global, fields: &[&str]) -> Option<Scenario>
-    ensures { option_map plan_of result ≡ begun_of (map (λ field. field.now) fields.now) }
+fn begun(alloc: Global, kinds: AppKinds, fields: &[&str]) -> Option<Scenario>
+    ensures { option_map plan_of result ≡ begun_of kinds (map (λ field. field.now) fields.now) }
 {
-    let config = config(fields)?;
+    let config = config(kinds, fields)?;
     Some(Scenario {
         setup: Setup {
             config,
@@ -149,11 +149,11 @@ fn going_on(
 
 /// The scenario that starts with this line.
 #[tactic(auto, unfolding(crate::specs::Reading::first_plan))]
-fn beginning(alloc: Global, keyword: Keyword, fields: &[&str]) -> Option<Scenario>
-    ensures { option_map plan_of result ≡ first_plan keyword (map (λ field. field.now) fields.now) }
+fn beginning(alloc: Global, kinds: AppKinds, keyword: Keyword, fields: &[&str]) -> Option<Scenario>
+    ensures { option_map plan_of result ≡ first_plan kinds keyword (map (λ field. field.now) fields.now) }
 {
     match keyword {
-        Keyword::Config => begun(alloc, fields),
+        Keyword::Config => begun(alloc, kinds, fields),
         _ => None,
     }
 }
@@ -162,14 +162,15 @@ fn beginning(alloc: Global, keyword: Keyword, fields: &[&str]) -> Option<Scenari
 #[tactic(auto, unfolding(crate::specs::Reading::next_by_keyword))]
 fn next_by_keyword(
     alloc: Global,
+    kinds: AppKinds,
     so_far: Option<Scenario>,
     keyword: Keyword,
     fields: &[&str],
 ) -> Result<Option<Scenario>, AllocError>
-    ensures { IfOk result (λ found. option_map plan_of found ≡ next_by_keyword (option_map plan_of so_far) keyword (map (λ field. field.now) fields.now)) }
+    ensures { IfOk result (λ found. option_map plan_of found ≡ next_by_keyword kinds (option_map plan_of so_far) keyword (map (λ field. field.now) fields.now)) }
 {
     match so_far {
-        None => Ok(beginning(alloc, keyword, fields)),
+        None => Ok(beginning(alloc, kinds, keyword, fields)),
         Some(scenario) => going_on(alloc, scenario, keyword, fields),
     }
 }
@@ -178,10 +179,11 @@ fn next_by_keyword(
 #[tactic(auto, unfolding(crate::specs::Reading::next_by_words))]
 fn next_by_words(
     alloc: Global,
+    kinds: AppKinds,
     so_far: Option<Scenario>,
     words: &[&str],
 ) -> Result<Option<Scenario>, AllocError>
-    ensures { IfOk result (λ found. option_map plan_of found ≡ next_by_words (option_map plan_of so_far) (map (λ word. word.now) words.now)) }
+    ensures { IfOk result (λ found. option_map plan_of found ≡ next_by_words kinds (option_map plan_of so_far) (map (λ word. word.now) words.now)) }
 {
     let [first, fields @ ..] = words else {
         return Ok(None);
@@ -189,7 +191,7 @@ fn next_by_words(
     let Some(keyword) = keyword_of(first) else {
         return Ok(None);
     };
-    next_by_keyword(alloc, so_far, keyword, fields)
+    next_by_keyword(alloc, kinds, so_far, keyword, fields)
 }
 
 /// Whether each byte is ASCII.
@@ -214,14 +216,15 @@ fn ascii(line: &[u8]) -> Option<&str>
 #[tactic(auto, unfolding(crate::specs::Reading::next_of))]
 pub(crate) fn next(
     alloc: Global,
+    kinds: AppKinds,
     so_far: Option<Scenario>,
     line: &[u8],
 ) -> Result<Option<Scenario>, AllocError>
-    ensures { IfOk result (λ found. option_map plan_of found ≡ next_of (option_map plan_of so_far) line.now) }
+    ensures { IfOk result (λ found. option_map plan_of found ≡ next_of kinds (option_map plan_of so_far) line.now) }
 {
     let Some(line) = ascii(line) else {
         return Ok(None);
     };
     let words = words(alloc, line, ' ')?;
-    next_by_words(alloc, so_far, words.as_slice())
+    next_by_words(alloc, kinds, so_far, words.as_slice())
 }

@@ -9,7 +9,7 @@ ghost use Rattle.scenario_texts.specs.declared.fault.TextFault.TheVariants as fa
 use crate::fault::TextFault;
 use crate::line_reading::next;
 use crate::scenario::Scenario;
-use ledger_model::Version;
+use ledger_model::{AppKinds, Version};
 use std::alloc::Global;
 
 /// The most lines of a text.
@@ -46,13 +46,14 @@ fn line_limit(so_far: &Option<Scenario>) -> usize
     }
 }
 
-/// The scenario that the text encodes (`docs/FORMATS.md`). If several lines are bad, the fault has the first.
-pub fn read(alloc: Global, text: &[u8]) -> Result<Scenario, TextFault>
-    ensures spelled { IfOk result (λ scenario. SpellsPlan text.now (plan_of scenario)) }
-    ensures lawful { IfOk result (λ scenario. IsPlan (plan_of scenario)) }
-    ensures only { (plan : Plan) → SpellsPlan text.now plan
+/// The scenario that the text encodes (`docs/FORMATS.md`), for a program that has these kinds of applications: a cluster of
+/// another kind is a bad line. If several lines are bad, the fault has the first.
+pub fn read(alloc: Global, kinds: AppKinds, text: &[u8]) -> Result<Scenario, TextFault>
+    ensures spelled { IfOk result (λ scenario. SpellsPlan kinds text.now (plan_of scenario)) }
+    ensures lawful { IfOk result (λ scenario. IsPlan kinds (plan_of scenario)) }
+    ensures only { (plan : Plan) → SpellsPlan kinds text.now plan
         → MatchResult result (λ scenario. plan_of scenario ≡ plan) (λ why. why ≡ fault.NoMemory) }
-    ensures bad { IfErr result (λ why. (why ≡ fault.NoMemory) ⊎ ((n : ℕ) × ((why ≡ fault.BadLine n) × IsBadAt text.now n))) }
+    ensures bad { IfErr result (λ why. (why ≡ fault.NoMemory) ⊎ ((n : ℕ) × ((why ≡ fault.BadLine n) × IsBadAt kinds text.now n))) }
 {
     let mut so_far = None;
     let mut left = text;
@@ -63,7 +64,7 @@ pub fn read(alloc: Global, text: &[u8]) -> Result<Scenario, TextFault>
             return Err(TextFault::BadLine(number));
         }
         if counts(line) {
-            let Some(scenario) = next(alloc, so_far, line)? else {
+            let Some(scenario) = next(alloc, kinds, so_far, line)? else {
                 return Err(TextFault::BadLine(number));
             };
             so_far = Some(scenario);

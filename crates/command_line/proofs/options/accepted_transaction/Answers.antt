@@ -37,11 +37,11 @@ returns-then-code-ne0-clause-right g c = λ table takes chosen. (
 pub returns-in_err-word-clause-right : goal.returns-in_err-word-clause-right
 returns-in_err-word-clause-right g c =
     λ table takes chosen. passed_up _ c.in_err-word.field-0.0
-    (IsRightOf (g.A.Application.meaning) table (rows_of (found_of c.args.matches.now)))
-    c.from_residual.ensures.1 (c.in_err-word.ensures.right (g.A.Application.meaning) table takes.0)
+    (IsRightOf (g.A.Opening.words.kinds) (g.A.Application.meaning) table (rows_of (found_of c.args.matches.now)))
+    c.from_residual.ensures.1 (c.in_err-word.ensures.right (g.A.Opening.words.kinds) (g.A.Application.meaning) table takes.0)
 
 pub returns-in_err-tx-clause-right : goal.returns-in_err-tx-clause-right
 returns-in_err-tx-clause-right g c =
-    λ table takes chosen. passed_up _ c.in_err-tx.field-0.0 (IsRightOf (g.A.Application.meaning) table
+    λ table takes chosen. passed_up _ c.in_err-tx.field-0.0 (IsRightOf (g.A.Opening.words.kinds) (g.A.Application.meaning) table
     (rows_of (found_of c.args.matches.now)))
-    c.from_residual-in_err-tx.ensures.1 (c.in_err-tx.ensures.right (g.A.Application.meaning) table takes)
+    c.from_residual-in_err-tx.ensures.1 (c.in_err-tx.ensures.right (g.A.Opening.words.kinds) (g.A.Application.meaning) table takes)

@@ -9,12 +9,12 @@ returns-in-Ok-clause-some c = search rules
 
 pub returns-in_err-text-clause-right : goal.returns-in_err-text-clause-right
 returns-in_err-text-clause-right c =
-    λ meaning table has. passed_up _ c.in_err-text.field-0.0
-    (IsRightOf meaning table (rows_of (found_of c.args.matches.now))) c.from_residual.ensures.1
-    (c.in_err-text.ensures.right meaning table has)
+    λ kinds meaning table has. passed_up _ c.in_err-text.field-0.0
+    (IsRightOf kinds meaning table (rows_of (found_of c.args.matches.now))) c.from_residual.ensures.1
+    (c.in_err-text.ensures.right kinds meaning table has)
 
 pub returns-in-Err-clause-none : goal.returns-in-Err-clause-none
 returns-in-Err-clause-none c = search rules
 
 pub returns-in-Err-clause-right : goal.returns-in-Err-clause-right
-returns-in-Err-clause-right c = λ meaning table has. (has, (c.in_ok-text.ensures.some, returns-in-Err-clause-none c))
+returns-in-Err-clause-right c = λ kinds meaning table has. (has, (c.in_ok-text.ensures.some, returns-in-Err-clause-none c))

@@ -14,6 +14,6 @@ returns-in_err-seed-clause-none c =
 
 pub returns-in_err-seed-clause-right : goal.returns-in_err-seed-clause-right
 returns-in_err-seed-clause-right c =
-    λ meaning. passed_up _ c.in_err-seed.field-0.0 (IsRightOf meaning simulate_options (rows_of (found_of c.args.matches.now)))
+    λ kinds meaning. passed_up _ c.in_err-seed.field-0.0 (IsRightOf kinds meaning simulate_options (rows_of (found_of c.args.matches.now)))
     c.from_residual.ensures.1
-    (c.in_err-seed.ensures.right meaning simulate_options refl)
+    (c.in_err-seed.ensures.right kinds meaning simulate_options refl)

@@ -9,9 +9,9 @@ use Rattle.command_line.proofs.Chains.{one_more_made}
 use Rattle.command_line.proofs.subcommand.clap_commands.Goals as goal
 
 pub loop-subcommand-preserved : goal.loop-subcommand-preserved
-loop-subcommand-preserved c = record {
+loop-subcommand-preserved g c = record {
   apps = ap (map app_of) c.in_ok-push.ensures.items
-      ∙ one_more_made app_of subcommand_app c.loop-subcommand.commands.items c.args.subcommands.now c.loop-subcommand.subcommand-index
+      ∙ one_more_made app_of (subcommand_app (g.A.Opening.words)) c.loop-subcommand.commands.items c.args.subcommands.now c.loop-subcommand.subcommand-index
       c.in_ok-command.command _ c.loop-subcommand-test.true c.loop-subcommand.invariant.apps c.in_ok-command.ensures.app;
   local = subst (λ cs. All (λ (x : Command). (fields_of x).has_globals ≡ false) cs) (sym c.in_ok-push.ensures.items)
       (All-push (λ (x : Command). (fields_of x).has_globals ≡ false) c.loop-subcommand.commands.items c.in_ok-command.command

@@ -7,7 +7,7 @@ use Rattle.command_line.specs.Grammar.{subcommand_app}
 use Rattle.command_line.proofs.subcommand.clap_commands.Given as goal
 
 abbrev pub invariant-loop-subcommand : goal.invariant-loop-subcommand
-invariant-loop-subcommand l = record {
-  apps : map app_of l.commands.items ≡ map subcommand_app (take l.subcommand-index l.subcommands);
+invariant-loop-subcommand g l = record {
+  apps : map app_of l.commands.items ≡ map (subcommand_app (g.A.Opening.words)) (take l.subcommand-index l.subcommands);
   local : All (λ c. (fields_of c).has_globals ≡ false) l.commands.items;
 }

@@ -1,4 +1,4 @@
-use Rattle.std.proofs.Common.{◌≡◌, ◌∙◌, ap, sym, Vec, Global}
+use Rattle.std.proofs.Common.{◌∙◌, ap, sym, Vec, Global}
 use Rattle.std.specs.Prelude.{Some, option_map}
 use Rattle.ledger_model.specs.declared.history.History.{History}
 use Rattle.byte_streams.proofs.Faults.{on_error}

@@ -1,5 +1,4 @@
-use Rattle.std.proofs.Common.{◌++◌, ◌∙◌, subst}
-use Rattle.signed_frames.specs.Reader.{HandsOut}
+use Rattle.std.proofs.Common.{◌++◌, ◌∙◌}
 use Rattle.byte_streams.proofs.Faults.{on_error, passed}
 use Rattle.program.specs.Faults.{FailsAfter}
 use Rattle.program.proofs.CauseLemmas.{if_stops, stops_anyway}

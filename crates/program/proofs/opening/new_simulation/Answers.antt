@@ -8,7 +8,7 @@ use Rattle.program.proofs.opening.new_simulation.Goals as goal
 pub unreachable-requires : goal.unreachable-requires
 unreachable-requires g c =
     let s = c.args.scenario.now in
-    let may = subst (λ l. MayLie s.setup.config l) (sym c.deref-2.ensures.value) (may_lie s c.requires) in
+    let may = subst (λ l. MayLie s.setup.config l) (sym c.deref-2.ensures.value) (may_lie (g.A.Opening.words.kinds) s c.requires) in
     not_too_many s.setup.config c.deref-2.result.now may
     (c.in-Err-TooManyLiars.ensures.too_many.0 (ap Err c.in-Err-TooManyLiars.field-0-is))
 

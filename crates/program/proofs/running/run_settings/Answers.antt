@@ -5,7 +5,7 @@ use Rattle.program.proofs.running.run_settings.Goals as goal
 
 pub returns-in-Ok-clause-ended : goal.returns-in-Ok-clause-ended
 returns-in-Ok-clause-ended g c =
-    settled (g.A.Application.meaning) (settings_of c.in-Ok.piped) c.args.settings c.perform_whole-done.result c.end.result _ _ _ _ _ _
+    settled (g.A.Opening.words.kinds) (g.A.Application.meaning) (settings_of c.in-Ok.piped) c.args.settings c.perform_whole-done.result c.end.result _ _ _ _ _ _
     c.in-Ok.ensures
     c.perform_whole-done.ensures.done c.perform_whole-done.ensures.explains c.end.ensures
 

@@ -1,0 +1,5 @@
+use Rattle.std.proofs.Common.{rules}
+use Rattle.app_states.proofs.state_machine.StateMachineApplication.commit.Goals as goal
+
+pub returns : goal.returns
+returns g c = search rules

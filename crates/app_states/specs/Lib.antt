@@ -1,0 +1,2 @@
+pub mod AppStates
+pub mod ProgramWords
