@@ -4,6 +4,7 @@
 #       processors with AVX2; on any other it ends at once with status 127.
 # test: the merge gate (every proof from nothing, the edits in must-fail, the tests), then the built program in real pipes, whether
 #       the other edits apply, and the file lines that the documents name.
+# notary: the same for the program `notary`, an application of one's own: crates/notary/out/notary.
 # bench: proves and builds the benchmark, and prints what keys and signatures cost on this machine.
 # bench-v3: the same, of a program for processors with AVX2 (x86-64-v3), which the gate doesn't build; on any other the program
 #       ends at once with status 127.
@@ -17,7 +18,7 @@
 SHELL := bash
 .SHELLFLAGS := -o pipefail -c
 CHROMIUM ?= chromium
-.PHONY: demo prove bench bench-v3 browser mutants soak test
+.PHONY: demo prove notary bench bench-v3 browser mutants soak test
 
 demo:
 	@echo "compiling the program, of which nothing is proved by this (make prove does that): abft simulate <examples/plain-run.txt"
@@ -28,6 +29,11 @@ prove:
 	@echo "proving the crates below the program, and the program, on $$(nproc) processors:"
 	@tests/prove.py abft
 	@cd crates/abft && mkdir -p out && { rt run $(if $(CPU),--cpu $(CPU)) --jobs $$(nproc) -- --version >out/said 2>&1 || { tail -n 20 out/said; exit 1; }; }
+
+notary:
+	@echo "proving the crates below the program notary, and the program, on $$(nproc) processors:"
+	@tests/prove.py notary
+	@cd crates/notary && mkdir -p out && { rt run $(if $(CPU),--cpu $(CPU)) --jobs $$(nproc) -- --version >out/said 2>&1 || { tail -n 20 out/said; exit 1; }; }
 
 prove-%:
 	@tests/prove.py --also $*
