@@ -420,6 +420,8 @@ cat >"$room/running" <<'EOT'
       --log <log>          What standard error shows, in letters of any case: off, error, warn, info, debug or trace [default: info]
       --quiet              The same as --log off
       --stop-at-eof        Stops the cluster, and its listener, when standard input ends
+      --no-empty-blocks    Opens a height only for a transaction that waits, or once another replica has opened it
+      --steady             Lets rounds last as at the start again, each time that all replicas have run another block
 EOT
 {
     cat <<'EOT'
@@ -618,6 +620,14 @@ printf 'the cluster was asked to stop\n' >"$room/wanted-err"
 check 'a cluster whose input ends' 0 "'$abft' cluster --seed $ones --rounds 4000000000 --stop-at-eof </dev/null"
 runs 'what it is told with --log off' 0 "$none" "'$abft' cluster --rounds 0 --log off"
 runs 'and with --quiet, whatever --log says' 0 "$none" "'$abft' cluster --rounds 0 --quiet --log debug"
+printf 'listening P\n%s' "$none" >"$room/wanted-out"
+printf 'the seed is the default one, which everybody knows: anybody can forge\n' >"$room/wanted-err"
+check 'what a quiet server tells of the default seed' 0 \
+    "'$abft' serve --rounds 0 --quiet --stop-at-eof </dev/null | sed 's/^listening .*/listening P/'"
+one=$'commits 0 1\ncommits 1 1\ncommits 2 1\ncommits 3 1\nledger 1\n1 [a=1]\n'
+runs 'a cluster that creates no empty block' 0 "$one" "'$abft' cluster --rounds 60 --base-ms 40 --no-empty-blocks --quiet"
+runs 'a steady cluster' 0 '1 [a=1]' \
+    "'$abft' cluster --rounds 40 --base-ms 60 --steady --quiet | grep -o '^1 .*' | tr -d '\n'"
 runs 'each round of each replica with --log debug' 0 "$(for r in 0 1 2 3; do
     printf 'replica %d opened round 1: blocks 0\nreplica %d opened round 2: blocks 0\n' "$r" "$r"; done)"$'\n' \
     "'$abft' cluster --rounds 2 --log debug 2>&1 >/dev/null | sed -nE 's/^(replica .*), signatures [0-9]+$/\1/p' | sort"
@@ -634,8 +644,8 @@ runs 'an audit of its histories' 0 $'ledger 0\n' "'$abft' audit <'$room/saved'"
 faults 'the lines of a cluster to a full disk' 3 "$full" "'$abft' cluster --quiet --rounds 0 --histories '$room/saved' >/dev/full"
 runs 'an audit of its histories' 0 $'ledger 0\n' "'$abft' audit <'$room/saved'"
 faults 'the lines of a server to a reader that leaves with the port' 3 "$gone" \
-    "sleep 1 | '$abft' serve --quiet --rounds 0 --stop-at-eof --histories '$room/saved' | (read -r port)"
-runs 'an audit of its histories' 0 $'ledger 0\n' "'$abft' audit <'$room/saved'"
+    "sleep 1 | '$abft' serve --quiet --seed $ones --rounds 0 --stop-at-eof --histories '$room/saved' | (read -r port)"
+runs 'an audit of its histories' 0 $'ledger 0\n' "'$abft' audit --seed $ones <'$room/saved'"
 faults 'histories to a full disk' 3 $'error: can\'t write the file /dev/full: No space left on device (os error 28)\n' \
     "'$abft' cluster --quiet --rounds 0 --histories /dev/full >'$room/lines'"
 runs 'and their lines' 0 "$none" "cat '$room/lines'"

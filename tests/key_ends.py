@@ -1,7 +1,7 @@
 #!/usr/bin/env python3
-"""How many blocks the keys of a live cluster come to: tests/key_ends.py ABFT N T TREE BASE_MS. It runs `abft serve` until all
-replicas are mute, and prints how many blocks every replica had committed when the first became mute, in which round that was,
-and how many each had at the end."""
+"""How many blocks the keys of live clusters come to: tests/key_ends.py ABFT TREE [WORDS..] prints the rows of OPERATING's table for keys of
+this height, one for each size of a cluster. It runs `abft serve WORDS..` until all replicas are mute. A row has the blocks that every
+replica had run when the first became mute, and in which round that was, and the least and the most that a replica has at the end."""
 import re
 import socket
 import subprocess
@@ -10,6 +10,8 @@ import sys
 sys.dont_write_bytecode = True  # no file beside sessions.py
 
 from sessions import ask
+
+SIZES = [(4, 1), (7, 2), (10, 3), (13, 4)]
 
 
 def height(port, replica):
@@ -21,28 +23,27 @@ def height(port, replica):
         return int.from_bytes(content, "big")
 
 
-def main(abft, n, t, tree, base_ms):
-    serve = subprocess.Popen([abft, "serve", "--n", n, "--t", t, "--tree", tree, "--base-ms", base_ms, "--rounds", "4000000000",
-                              "--sessions", "1000", "--stop-at-eof"],
+def row(abft, n, t, tree, words):
+    """The row of a cluster of this size."""
+    serve = subprocess.Popen([abft, "serve", "--n", str(n), "--t", str(t), "--tree", tree, "--rounds", "4000000000", "--sessions", "1000",
+                              "--stop-at-eof", *words],
                              stdin=subprocess.PIPE, stdout=subprocess.PIPE, stderr=subprocess.PIPE, text=True)
     port = int(serve.stdout.readline().split()[1])
-    mute = 0
+    first, mute = None, 0
     for line in serve.stderr:
         told = re.match(r"replica (\d+) is mute from round (\d+) on", line)
         if not told:
             continue
-        if mute == 0:
-            blocks = min(height(port, replica) for replica in range(int(n)))
-            print(f"{n} replicas, trees of height {tree}: replica {told[1]} is the first that is mute, from round {told[2]} on; "
-                  f"every replica has {blocks} blocks", flush=True)
+        if first is None:
+            first = min(height(port, replica) for replica in range(n)), int(told[2])
         mute += 1
-        if mute == int(n):
-            print(f"all are mute from round {told[2]} on", end="; ")
+        if mute == n:
             serve.stdin.close()
-    commits = [line.split()[2] for line in serve.stdout if line.startswith("commits ")]
-    print("blocks of each at the end:", " ".join(commits))
-    return mute == int(n) and serve.wait() == 0
+    commits = [int(line.split()[2]) for line in serve.stdout if line.startswith("commits ")]
+    assert mute == n and serve.wait() == 0
+    return f"{n} | {t} | {first[0]} in round {first[1]}, and {min(commits)} to {max(commits)} at the end"
 
 
 if __name__ == "__main__":
-    sys.exit(0 if main(*sys.argv[1:]) else 1)
+    for n, t in SIZES:
+        print(row(sys.argv[1], n, t, sys.argv[2], sys.argv[3:]), flush=True)

@@ -96,14 +96,10 @@ full() {
     done
 }
 
-# How many blocks the keys of a cluster come to: it runs until all replicas are mute.
+# How many blocks the keys of clusters come to: they run until all replicas are mute.
 keys() {
-    local n t base_ms size
-    for size in '4 1 200' '7 2 300' '13 4 600'; do
-        read -r n t base_ms <<<"$size"
-        tests/key_ends.py "$abft" "$n" "$t" 10 "$base_ms"
-        notes "the keys of $n replicas" $?
-    done
+    tests/key_ends.py "$abft" 10 --steady --base-ms 200
+    notes 'the keys of clusters' $?
 }
 
 # How much of a processor an idle server takes: a figure alone.

@@ -69,9 +69,9 @@ impl ClusterStatus {
         })
     }
 
-    /// Adds a notice, unless the operator gets none of its level or memory runs out.
+    /// Adds a notice, unless the operator gets none such or memory runs out.
     pub(crate) fn add(&mut self, notice: Notice) {
-        if self.filter.allows(notice.level()) {
+        if notice.is_for(self.filter) {
             let _ = self.notices.push(notice);
         }
     }

@@ -1,13 +1,15 @@
 //! The notices of a running cluster to its operator, one line each.
 use ledger_model::ReplicaId;
-use log::Level;
+use log::{Level, LevelFilter};
 use std::fmt;
 
 /// A notice to the operator.
 #[derive(Clone, Copy, Debug, PartialEq, Eq)]
 pub enum Notice {
-    /// The cluster uses the default seed.
-    DefaultSeed,
+    /// The cluster uses the default seed. If it serves clients, every operator gets the notice, a quiet one too.
+    DefaultSeed {
+        serves: bool,
+    },
     /// The keys of this many replicas are being made.
     Keys(u8),
     /// A replica has opened this round, and has this many blocks and signatures.
@@ -48,7 +50,7 @@ impl Notice {
     /// How important the notice is.
     pub(crate) fn level(&self) -> Level {
         match self {
-            Notice::DefaultSeed
+            Notice::DefaultSeed { .. }
             | Notice::Mute { .. }
             | Notice::NearlyFull { .. }
             | Notice::Loss(_) => Level::Warn,
@@ -59,6 +61,11 @@ impl Notice {
             | Notice::ServesOn
             | Notice::Stopped => Level::Info,
         }
+    }
+
+    /// Whether an operator gets the notice who asked for those that the filter allows.
+    pub(crate) fn is_for(&self, filter: LevelFilter) -> bool {
+        filter.allows(self.level()) || matches!(self, Notice::DefaultSeed { serves: true })
     }
 
     /// Whether the notice is shown in a terminal's line of progress, and left out of a log.
@@ -78,7 +85,7 @@ impl Notice {
 impl fmt::Display for Notice {
     fn fmt<W: fmt::Write>(&self, f: &mut fmt::Formatter<W>) -> fmt::Result {
         match self {
-            Notice::DefaultSeed => f.write_str(
+            Notice::DefaultSeed { .. } => f.write_str(
                 "the seed is the default one, which everybody knows: anybody can forge",
             ),
             Notice::Keys(replicas) => write!(f, "making the keys of {replicas} replicas"),

@@ -48,14 +48,14 @@ impl SharedStatus {
         })
     }
 
-    /// Whether the operator gets no notice at all, but for a fault.
+    /// Whether the operator gets no notice at all, but for a fault, and for the default seed of a cluster that serves clients.
     fn is_quiet(&self) -> bool {
         self.filter == LevelFilter::Off
     }
 
-    /// Passes a notice to the reporter, unless the operator gets none of its level.
+    /// Passes a notice to the reporter, unless the operator gets none such.
     pub(crate) fn tell<R: Wait>(&self, rt: &R, notice: Notice) {
-        if self.filter.allows(notice.level()) {
+        if notice.is_for(self.filter) {
             self.status.lock(rt).add(notice);
             self.news.ring();
         }

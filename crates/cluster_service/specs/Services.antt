@@ -1,6 +1,8 @@
 -- What the operator's settings say of a run, and what ran.
 use Rattle.ledger_model.specs.Meanings.{Meanings}
 use Rattle.std.specs.Prelude.{◌≡◌, ℕ, List, Option, option_map, replicate}
+use Rattle.cluster_workers.specs.declared.round_clock.Pace.{Pace}
+use Rattle.cluster_workers.specs.declared.work_plan.WorkPlan.{WorkPlan}
 use Rattle.cluster_workers.specs.RunningClusters.{EndedRunView, RunningClusterView, AreWorkersOf}
 use Rattle.cluster_setup.specs.declared.cluster_settings.ClusterSettings.{ClusterSettings}
 use Rattle.cluster_setup.specs.declared.cluster_settings.ServeSettings.{ServeSettings}
@@ -8,12 +10,20 @@ use Rattle.cluster_service.specs.declared.protocol.Protocol.{Protocol}
 use Rattle.cluster_service.specs.declared.protocol.Protocol.TheVariants as protocol
 use Rattle.cluster_service.specs.Replicas.{all_begun}
 
+-- what the settings say that each worker is to do
+abbrev pub work_plan_of : ClusterSettings → WorkPlan
+work_plan_of s = record { rounds = s.rounds; creates_empty_blocks = s.creates_empty_blocks }
+
+-- how long the settings say that rounds last
+abbrev pub pace_of : ClusterSettings → Pace
+pace_of s = record { base_ms = s.base_ms; is_steady = s.is_steady }
+
 -- The workers of this cluster ran, one for each replica's number, each on the cluster's board; as they began, each had ended no round, and
--- was to end as many as the settings say. The clock had the settings' base time, and to each replica their
+-- was to do what the settings say. The clock had the settings' pace, and to each replica their
 -- transaction had been submitted.
 pub record IsRunOf (meaning : Meanings) (s : ClusterSettings) (run : EndedRunView) : Type 0 where
-  pub workers : AreWorkersOf run.cluster.board s.cluster.config.replicas s.cluster.config.frames s.rounds run.workers
-  pub base_ms : run.base_ms ≡ s.base_ms
+  pub workers : AreWorkersOf run.cluster.board s.cluster.config.replicas s.cluster.config.frames (work_plan_of s) run.workers
+  pub pace : run.pace ≡ pace_of s
   pub begun : run.cluster.begun ≡ all_begun meaning s.cluster s.tx
 
 -- how clients were served at one port of 127.0.0.1: the port, what was spoken there, the cluster whose replicas were asked, the seats that

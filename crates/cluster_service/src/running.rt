@@ -3,7 +3,7 @@ ghost use Rattle.std.specs.Prelude.{◌≡◌, vec_len, IfErr, IfOk};
 ghost use Rattle.cluster_setup.specs.Keys.{ring_of};
 ghost use Rattle.cluster_service.specs.Reporting.{AreTaken};
 ghost use Rattle.cluster_service.specs.RunFaults.{IsRunFault};
-ghost use Rattle.cluster_service.specs.Services.{IsRunOf};
+ghost use Rattle.cluster_service.specs.Services.{IsRunOf, pace_of, work_plan_of};
 
 use crate::final_histories::{FinalHistories, take_all};
 use crate::replicas::{NewReplicas, new_replicas};
@@ -12,7 +12,9 @@ use app_states::Opening;
 use byte_streams::{ProgramFault, Resource};
 use cluster_reports::{Notice, ReportingGate, SharedStatus};
 use cluster_setup::ClusterSettings;
-use cluster_workers::{EndedRun, MachineClock, RunningCluster, Stop, Worker, run_all};
+use cluster_workers::{
+    EndedRun, MachineClock, Pace, RunningCluster, Stop, WorkPlan, Worker, run_all,
+};
 use std::alloc::Global;
 use std::marker::Model;
 use std::random::RandomSource;
@@ -20,18 +22,39 @@ use std::sync::Wait;
 use std::thread::Threads;
 use std::time::Clock;
 
-/// The gate of a cluster's workers, which stores how the replicas stand. It begins with what is to be known before the keys are made.
+/// The gate of a cluster's workers, which stores how the replicas stand, and whether clients are served. It begins with what is to be known before the keys are made.
 pub(crate) fn new_gate<'a, R: Wait>(
     rt: &'a R,
     settings: &ClusterSettings,
     status: &'a SharedStatus,
+    serves: bool,
 ) -> ReportingGate<'a, R> {
     let gate = ReportingGate::new(rt, status);
     if settings.cluster.seed == [0; 32] {
-        gate.tell(Notice::DefaultSeed);
+        gate.tell(Notice::DefaultSeed { serves });
     }
     gate.tell(Notice::Keys(settings.cluster.config.replicas));
     gate
+}
+
+/// What each worker of a cluster with these settings is to do.
+pub(crate) fn work_plan_of(settings: &ClusterSettings) -> WorkPlan
+    ensures { result ≡ work_plan_of settings.now }
+{
+    WorkPlan {
+        rounds: settings.rounds,
+        creates_empty_blocks: settings.creates_empty_blocks,
+    }
+}
+
+/// How long the rounds of a cluster with these settings last.
+fn pace_of(settings: &ClusterSettings) -> Pace
+    ensures { result ≡ pace_of settings.now }
+{
+    Pace {
+        base_ms: settings.base_ms,
+        is_steady: settings.is_steady,
+    }
 }
 
 /// A cluster that is to run: its settings, its workers, the gate that stores how they stand, and what can ask them to stop. Contracts see it
@@ -46,10 +69,11 @@ pub(crate) struct PreparedRun<'a, A: Application, R: Wait> {
 
 impl<'a, A: Application, R: Wait> Model for PreparedRun<'a, A, R> {
     ghost use Rattle.cluster_workers.specs.RunningClusters.{EndedRunView};
+    ghost use Rattle.cluster_service.specs.Services.{pace_of};
 
     ghost Value = { EndedRunView };
 
-    ghost view = { λ p. record { cluster = p.cluster.now; workers = p.workers.items; base_ms = p.settings.now.base_ms } };
+    ghost view = { λ p. record { cluster = p.cluster.now; workers = p.workers.items; pace = pace_of p.settings.now } };
 }
 
 // An own `Drop` keeps proofs short: an owner drops it by one call. See docs/WORKING.md.
@@ -78,7 +102,7 @@ impl<A: Application + Send, R: Clock + Threads + Wait + Sync> PreparedRun<'_, A,
             gate,
             stop,
         } = self;
-        let clock = match MachineClock::start(rt, settings.base_ms) {
+        let clock = match MachineClock::start(rt, pace_of(settings)) {
             Ok(clock) => clock,
             Err(error) => return Err(ProgramFault::Refused(Resource::Clock, error)),
         };
@@ -115,7 +139,8 @@ where
 {
     let config = &settings.cluster.config;
     let NewReplicas { states, ring } = new_replicas(rt, alloc, &settings.cluster, &settings.tx)?;
-    let (cluster, workers, _) = RunningCluster::new(alloc, config, states, settings.rounds, 0)?;
+    let plan = work_plan_of(settings);
+    let (cluster, workers, _) = RunningCluster::new(alloc, config, states, plan, 0)?;
     let prepared = PreparedRun {
         settings: &*settings,
         cluster: &cluster,
@@ -150,7 +175,7 @@ where
     ensures run { IfOk result (λ end. IsRunOf A.meaning settings.now end.run) }
     ensures fault { IfErr result IsRunFault }
 {
-    let gate = new_gate(rt, settings, status);
+    let gate = new_gate(rt, settings, status, false);
     run_through(rt, alloc, settings, &gate, stop)
 }
 

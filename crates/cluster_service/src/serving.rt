@@ -14,7 +14,7 @@ use crate::listening::seats_of;
 use crate::ports::{Listeners, PortListener};
 use crate::protocol::Protocol;
 use crate::replicas::{NewReplicas, new_replicas};
-use crate::running::{PreparedRun, end_of, new_gate};
+use crate::running::{PreparedRun, end_of, new_gate, work_plan_of};
 use crate::servers::{EndedServices, Server, ServerEnd, Servers, http_server};
 use abci::Application;
 use app_states::Opening;
@@ -220,7 +220,7 @@ where
         alloc,
         &run.cluster.config,
         states,
-        run.rounds,
+        work_plan_of(run),
         seat_count(settings.sessions, &listeners.http),
     )?;
     let prepared = PreparedRun {
@@ -269,6 +269,6 @@ where
         ≡ services_at settings.now end.run.cluster listeners.sessions.port (option_map (λ h. h.port) listeners.http)) }
     ensures fault { IfErr result IsRunFault }
 {
-    let gate = new_gate(rt, &settings.cluster, status);
+    let gate = new_gate(rt, &settings.cluster, status, true);
     serve_through(rt, alloc, settings, &gate, listeners, stop)
 }

@@ -15,6 +15,10 @@ pub struct ClusterSettings {
     pub rounds: u32,
     /// The milliseconds that the first round lasts; each later one lasts a millisecond more.
     pub base_ms: u32,
+    /// Whether rounds are short again each time that all replicas have committed another block.
+    pub is_steady: bool,
+    /// Whether a replica opens a height with an empty pool; if not, only once another replica has sent it a frame of that height.
+    pub creates_empty_blocks: bool,
     /// What the operator reads: nothing but a fault (`Off`), also what needs attention (`Warn`), also progress (`Info`), also each
     /// round of each replica (`Debug`).
     pub log: LevelFilter,

@@ -3,6 +3,7 @@ use Rattle.std.proofs.Common.{◌≡◌, ℕ, suc, ◌+◌, List, [], ◌∷◌,
 use Rattle.ledger_model.specs.declared.version.Version.{Version}
 use Rattle.commit_board.specs.Seats.{BoardId}
 use Rattle.inbox.specs.Passes.{InboxId}
+use Rattle.cluster_workers.specs.declared.work_plan.WorkPlan.{WorkPlan}
 use Rattle.cluster_workers.specs.RunningClusters.{PeerInbox, WorkerView, peers_from, worker_of}
 
 abbrev the_peer : ℕ → InboxId → PeerInbox
@@ -20,26 +21,26 @@ peers_more first (x ∷ rest) inbox =
     (peers_more (first + 1) rest inbox ∙ ap (λ (k : ℕ). peers_from (first + 1) rest ++ the_peer k inbox ∷ []) same)
 
 -- the workers so far, and one for each of the inboxes that are left, from this number on
-abbrev pub AreLinked : BoardId → Version → ℕ → ℕ → List PeerInbox → List WorkerView → List InboxId → Type 0
-AreLinked board version rounds number peers workers left =
-    workers ++ map (worker_of board version rounds peers) (peers_from number left) ≡ map (worker_of board version rounds peers) peers
+abbrev pub AreLinked : BoardId → Version → WorkPlan → ℕ → List PeerInbox → List WorkerView → List InboxId → Type 0
+AreLinked board version plan number peers workers left =
+    workers ++ map (worker_of board version plan peers) (peers_from number left) ≡ map (worker_of board version plan peers) peers
 
 -- the next worker takes from the next inbox
-pub linked_more : (board : BoardId) (version : Version) (rounds number : ℕ) (peers : List PeerInbox) (workers : List WorkerView)
+pub linked_more : (board : BoardId) (version : Version) (plan : WorkPlan) (number : ℕ) (peers : List PeerInbox) (workers : List WorkerView)
     (inbox : InboxId)
     (left : List InboxId) (worker : WorkerView)
-    → worker ≡ worker_of board version rounds peers (record { replica = number; inbox = inbox })
-    → AreLinked board version rounds number peers workers (inbox ∷ left)
-    → AreLinked board version rounds (number + 1) peers (workers ++ worker ∷ []) left
-linked_more board version rounds number peers workers inbox left worker is linked =
-    append_assoc workers (worker ∷ []) (map (worker_of board version rounds peers) (peers_from (number + 1) left))
-    ∙ ap (λ w. workers ++ w ∷ map (worker_of board version rounds peers) (peers_from (number + 1) left)) is
+    → worker ≡ worker_of board version plan peers (record { replica = number; inbox = inbox })
+    → AreLinked board version plan number peers workers (inbox ∷ left)
+    → AreLinked board version plan (number + 1) peers (workers ++ worker ∷ []) left
+linked_more board version plan number peers workers inbox left worker is linked =
+    append_assoc workers (worker ∷ []) (map (worker_of board version plan peers) (peers_from (number + 1) left))
+    ∙ ap (λ w. workers ++ w ∷ map (worker_of board version plan peers) (peers_from (number + 1) left)) is
     ∙ linked
 
 -- once none is left, these are all
-pub all_linked : (board : BoardId) (version : Version) (rounds number : ℕ) (peers : List PeerInbox) (workers : List WorkerView)
+pub all_linked : (board : BoardId) (version : Version) (plan : WorkPlan) (number : ℕ) (peers : List PeerInbox) (workers : List WorkerView)
     (left : List InboxId)
-    → length left ≡ 0 → AreLinked board version rounds number peers workers left
-    → workers ≡ map (worker_of board version rounds peers) peers
-all_linked board version rounds number peers workers [] none linked = sym (append-nil workers) ∙ linked
-all_linked board version rounds number peers workers (inbox ∷ left) none linked = absurd (omega (arith, none))
+    → length left ≡ 0 → AreLinked board version plan number peers workers left
+    → workers ≡ map (worker_of board version plan peers) peers
+all_linked board version plan number peers workers [] none linked = sym (append-nil workers) ∙ linked
+all_linked board version plan number peers workers (inbox ∷ left) none linked = absurd (omega (arith, none))

@@ -1,2 +1,1 @@
 pub mod RunningClusters
-pub mod Looks

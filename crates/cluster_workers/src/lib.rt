@@ -1,7 +1,7 @@
 //! The workers of a running cluster: a thread for each replica, which delivers the replica's frames and ends its rounds.
 //!
-//! A [`Worker`] takes frames from its replica's inbox, opens the height after the committed one, runs the decided
-//! blocks, gives up the heights that all replicas committed, as it reads on the commit board, and ends the rounds that
+//! A [`Worker`] takes frames from its replica's inbox, opens the height after the committed one once all replicas
+//! committed that, or after a while, runs the decided blocks, gives up the heights that all replicas committed, as it reads on the commit board, and ends the rounds that
 //! are due. It changes the replica only by turns, each under the replica's lock, so the invariant behind the lock holds
 //! whatever the threads do: each history is a replay. The frames that a round end sends go into the inboxes of their
 //! addressees; a full inbox loses the frame, which is counted ([`RunningCluster::lost`]).
@@ -29,12 +29,14 @@ mod same_cluster;
 mod sending;
 mod stop;
 mod turn_taker;
+mod work_plan;
 mod worker;
 
 pub use bell::Bell;
 pub use gate::{NoGate, TurnGate};
-pub use round_clock::{MachineClock, Progress, RoundClock};
+pub use round_clock::{MachineClock, Pace, Progress, RoundClock};
 pub use running::{EndedRun, run_all};
 pub use running_cluster::RunningCluster;
 pub use stop::Stop;
+pub use work_plan::WorkPlan;
 pub use worker::Worker;

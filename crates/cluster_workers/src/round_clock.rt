@@ -1,11 +1,12 @@
 //! When the rounds of a running replica end.
 use ledger_model::ReplicaId;
-use round_pacer::{due, until_due};
+use round_pacer::{Schedule, due, until_due};
 use std::io;
 use std::marker::Model;
+use std::sync::{Mutex, Wait};
 use std::time::{Clock, Duration, Instant};
 
-/// What a worker did since it last asked whether a round is due.
+/// What a worker did since it last asked whether a round is due, and what it saw.
 #[derive(Clone, Copy, Debug, PartialEq, Eq)]
 pub struct Progress {
     /// The number of frames that it took from its inbox.
@@ -14,6 +15,8 @@ pub struct Progress {
     pub sent: usize,
     /// The number of events that its replica took, including deliveries of frames.
     pub events: usize,
+    /// A height that all replicas committed, by the board.
+    pub least: u32,
 }
 
 impl Progress {
@@ -27,15 +30,25 @@ impl Progress {
     }
 }
 
+/// How long the rounds of a cluster last.
+#[derive(Clone, Copy, Debug, Drop, PartialEq, Eq)]
+pub struct Pace {
+    /// How long a round lasts at least, in milliseconds; 0 if rounds don't end by time.
+    pub base_ms: u32,
+    /// Whether rounds are short again each time that all replicas have committed another block.
+    pub is_steady: bool,
+}
+
 /// Decides when rounds end. All workers share it.
 pub trait RoundClock {
-    ghost use Rattle.std.specs.Prelude.{◌≡◌, ℕ};
+    ghost use Rattle.std.specs.Prelude.{◌≡◌};
+    ghost use Rattle.cluster_workers.specs.declared.round_clock.Pace.{Pace};
 
-    ghost base_ms: { Self → ℕ };
+    ghost pace: { Self → Pace };
 
-    /// How long a round lasts at least, in milliseconds; 0 if rounds don't end by time.
-    fn base_ms(&self) -> u32
-        ensures { result ≡ base_ms self.now };
+    /// How long rounds last.
+    fn pace(&self) -> Pace
+        ensures { result ≡ pace self.now };
 
     /// Whether the next round of this replica is to end; `ended` rounds ended before.
     fn is_due(&self, replica: ReplicaId, ended: u32, progress: Progress) -> bool;
@@ -47,33 +60,82 @@ pub trait RoundClock {
 /// The most milliseconds that a worker sleeps before it looks whether it is to stop.
 const LONGEST_PAUSE_MS: u64 = 100;
 
-/// Wall-clock time: each round lasts a base time, and a millisecond more than the one before it (`round_pacer`).
+/// The schedule of a steady clock, and what it has seen of the workers.
 #[derive(Drop)]
-pub struct MachineClock<'a, R: Clock> {
+struct SteadySchedule {
+    schedule: Schedule,
+    /// The last round that ended at some replica.
+    last: u32,
+    /// The greatest height that all replicas committed when the schedule last began anew.
+    blocks: u32,
+}
+
+impl SteadySchedule {
+    /// The schedule of rounds from the start on.
+    fn new() -> Self {
+        SteadySchedule {
+            schedule: Schedule::new(),
+            last: 0,
+            blocks: 0,
+        }
+    }
+
+    /// Whether the next round of a replica is to end. The schedule begins anew first, if all replicas have committed another block: at the
+    /// last round that ended at some replica, so that all go on by the same moments.
+    fn ask(&mut self, now_ms: u64, base_ms: u32, ended: u32, least: u32) -> bool {
+        if self.blocks < least {
+            self.blocks = least;
+            self.schedule.begin_anew(now_ms, base_ms, self.last);
+        }
+        let is_due = self.schedule.is_due(now_ms, base_ms, ended);
+        if is_due {
+            self.last = self.last.max(ended.saturating_add(1));
+        }
+        is_due
+    }
+}
+
+/// Wall-clock time: each round lasts a base time, and a millisecond more than the one before it (`round_pacer`). If the clock is steady, rounds
+/// begin anew with the base time whenever all replicas have committed another block.
+pub struct MachineClock<'a, R: Clock + Wait> {
     rt: &'a R,
     start: Instant,
-    base_ms: u32,
+    pace: Pace,
+    steady: Mutex<SteadySchedule>,
 }
 
-impl<'a, R: Clock> Model for MachineClock<'a, R> {
-    ghost use Rattle.std.specs.Prelude.{ℕ};
-
-    ghost Value = { ℕ };
-
-    ghost view = { λ c. c.base_ms };
+// An own `Drop` keeps proofs short: an owner drops it by one call. See docs/WORKING.md.
+impl<R: Clock + Wait> Drop for MachineClock<'_, R> {
+    fn drop(self) {
+        let MachineClock {
+            rt: _rt,
+            start: _start,
+            pace: _pace,
+            steady: _steady,
+        } = self;
+    }
 }
 
-impl<'a, R: Clock> MachineClock<'a, R> {
+impl<'a, R: Clock + Wait> Model for MachineClock<'a, R> {
+    ghost use Rattle.cluster_workers.specs.declared.round_clock.Pace.{Pace};
+
+    ghost Value = { Pace };
+
+    ghost view = { λ c. c.pace };
+}
+
+impl<'a, R: Clock + Wait> MachineClock<'a, R> {
     ghost use Rattle.std.specs.Prelude.{◌≡◌, IfOk};
 
-    /// A clock with this base time that starts now. An `Err` means that the machine's clock can't be read.
-    pub fn start(rt: &'a R, base_ms: u32) -> io::Result<Self>
-        ensures { IfOk result (λ clock. clock ≡ base_ms) }
+    /// A clock with this pace that starts now. An `Err` means that the machine's clock can't be read.
+    pub fn start(rt: &'a R, pace: Pace) -> io::Result<Self>
+        ensures { IfOk result (λ clock. clock ≡ pace) }
     {
         Ok(MachineClock {
             rt,
             start: Instant::now(rt)?,
-            base_ms,
+            pace,
+            steady: Mutex::new(SteadySchedule::new()),
         })
     }
 
@@ -85,21 +147,37 @@ impl<'a, R: Clock> MachineClock<'a, R> {
             Err(_) => u64::MAX,
         }
     }
+
+    /// The milliseconds until the next round end of a replica of which `ended` rounds have ended.
+    fn left_ms(&self, ended: u32) -> u64 {
+        let (now_ms, base_ms) = (self.now_ms(), self.pace.base_ms);
+        if self.pace.is_steady {
+            let steady = self.steady.lock(self.rt);
+            steady.schedule.until_due(now_ms, base_ms, ended)
+        } else {
+            until_due(0, now_ms, base_ms, ended)
+        }
+    }
 }
 
-impl<R: Clock> RoundClock for MachineClock<'_, R> {
-    ghost base_ms = { λ clock. clock };
+impl<R: Clock + Wait> RoundClock for MachineClock<'_, R> {
+    ghost pace = { λ clock. clock };
 
-    fn base_ms(&self) -> u32 {
-        self.base_ms
+    fn pace(&self) -> Pace {
+        self.pace
     }
 
-    fn is_due(&self, _replica: ReplicaId, ended: u32, _progress: Progress) -> bool {
-        due(0, self.now_ms(), self.base_ms, ended) > 0
+    fn is_due(&self, _replica: ReplicaId, ended: u32, progress: Progress) -> bool {
+        let (now_ms, base_ms) = (self.now_ms(), self.pace.base_ms);
+        if self.pace.is_steady {
+            let mut steady = self.steady.lock(self.rt);
+            steady.ask(now_ms, base_ms, ended, progress.least)
+        } else {
+            due(0, now_ms, base_ms, ended) > 0
+        }
     }
 
     fn pause(&self, ended: u32) -> Duration {
-        let left_ms = until_due(0, self.now_ms(), self.base_ms, ended);
-        Duration::from_millis(left_ms.min(LONGEST_PAUSE_MS))
+        Duration::from_millis(self.left_ms(ended).min(LONGEST_PAUSE_MS))
     }
 }

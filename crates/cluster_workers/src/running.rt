@@ -2,7 +2,7 @@
 ghost use Rattle.std.specs.Prelude.{◌≡◌, IfSome};
 
 use crate::gate::TurnGate;
-use crate::round_clock::RoundClock;
+use crate::round_clock::{Pace, RoundClock};
 use crate::running_cluster::RunningCluster;
 use crate::stop::Stop;
 use crate::worker::Worker;
@@ -19,7 +19,7 @@ use std::thread::Threads;
 pub struct EndedRun<A: Application> {
     cluster: Snapshot<RunningCluster<A>>,
     workers: Snapshot<Vec<Worker<A>>>,
-    base_ms: u32,
+    pace: Pace,
 }
 
 impl<A: Application> Model for EndedRun<A> {
@@ -27,7 +27,7 @@ impl<A: Application> Model for EndedRun<A> {
 
     ghost Value = { EndedRunView };
 
-    ghost view = { λ r. record { cluster = r.cluster.value; workers = r.workers.value.items; base_ms = r.base_ms } };
+    ghost view = { λ r. record { cluster = r.cluster.value; workers = r.workers.value.items; pace = r.pace } };
 }
 
 /// Runs each worker of the cluster in a thread of its own, and returns when all have ended. If a thread can't be made, the cluster is
@@ -46,12 +46,12 @@ where
     C: RoundClock + Sync,
     G: TurnGate + Sync,
     ensures { IfSome result (λ ran. ran
-        ≡ record { cluster = cluster.now; workers = workers.items; base_ms = C.base_ms clock.now }) }
+        ≡ record { cluster = cluster.now; workers = workers.items; pace = C.pace clock.now }) }
 {
     let ran = EndedRun {
         cluster: Snapshot::of(cluster),
         workers: Snapshot::of(&workers),
-        base_ms: clock.base_ms(),
+        pace: clock.pace(),
     };
     let all_ran = thread::scope(thread::scope_env(), rt, move |scope| {
         for worker in workers {

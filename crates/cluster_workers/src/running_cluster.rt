@@ -8,6 +8,7 @@ use crate::inboxes::{Inboxes, inboxes_of};
 use crate::losses::Losses;
 use crate::same_cluster::{are_same, have_same_keys};
 use crate::turn_taker::TurnTaker;
+use crate::work_plan::WorkPlan;
 use crate::worker::Worker;
 use abci::Application;
 use commit_board::{Board, ReaderSeat, WriterSeat};
@@ -123,7 +124,7 @@ fn share_all<A: Application>(
 }
 
 /// The workers of these replicas, by number. The writers' seats of the board are in the same order; each worker takes one
-/// of the readers' seats. Each worker reads frames of this version, and ends `rounds` rounds. Their inboxes count the frames that they lose.
+/// of the readers' seats. Each worker reads frames of this version, and does what the plan says. Their inboxes count the frames that they lose.
 fn workers_of<A: Application>(
     alloc: Global,
     version: Version,
@@ -134,12 +135,12 @@ fn workers_of<A: Application>(
     ring: &Arc<KeyRing>,
     losses: &Arc<Losses>,
     count: u8,
-    rounds: u32,
+    plan: WorkPlan,
 ) -> Result<Vec<Worker<A>>, AllocError>
     requires seats { AreDealt (arc_value board.now) 0 count seats.items }
     requires looking { AreReadersOf (arc_value board.now) count looking.items }
     requires replicas { length replicas.now ≡ count }
-    ensures { IfOk result (λ workers. AreWorkersOf (arc_value board.now) count version rounds workers.items) }
+    ensures { IfOk result (λ workers. AreWorkersOf (arc_value board.now) count version plan workers.items) }
 {
     let Inboxes { receivers, senders } = inboxes_of(alloc, count, losses)?;
     let mut seats = seats.into_iter();
@@ -164,22 +165,22 @@ fn workers_of<A: Application>(
         let turn_taker = TurnTaker::new(Arc::try_clone(board)?, seat, reader);
         let ring = Arc::try_clone(ring)?;
         workers.push(Worker::new(
-            alloc, version, replica, turn_taker, receiver, senders, ring, rounds,
+            alloc, version, replica, turn_taker, receiver, senders, ring, plan,
         ))?;
     }
     Ok(workers)
 }
 
 impl<A: Application> RunningCluster<A> {
-    /// The cluster of these replicas, which have this configuration and the keys of the first of them; a worker for each, which ends `rounds` rounds, and `readers` readers' seats of
-    /// the board, besides those of the workers. The replicas must be in ascending order of their numbers, from 0 on; a
+    /// The cluster of these replicas, which have this configuration and the keys of the first of them; a worker for each, which does
+    /// what the plan says, and `readers` readers' seats of the board, besides those of the workers. The replicas must be in ascending order of their numbers, from 0 on; a
     /// worker drops its events if its replica has another number. The only error is allocation failure, which is also
     /// answered if the readers' seats, with one for each worker, are more than 2^32 - 1.
     pub fn new(
         alloc: Global,
         config: &Config,
         states: Vec<State<A>>,
-        rounds: u32,
+        plan: WorkPlan,
         readers: u32,
     ) -> Result<(RunningCluster<A>, Vec<Worker<A>>, Vec<ReaderSeat>), AllocError>
         requires { vec_len states ≡ config.now.replicas }
@@ -189,7 +190,7 @@ impl<A: Application> RunningCluster<A> {
         // The cluster begins with these states.
         ensures begun { IfOk result (λ r. r.0.begun ≡ states.items) }
         // The worker of each replica, by number, with the cluster's board, its own inbox and those of all replicas.
-        ensures workers { IfOk result (λ r. AreWorkersOf r.0.board config.now.replicas config.now.frames rounds r.1.items) }
+        ensures workers { IfOk result (λ r. AreWorkersOf r.0.board config.now.replicas config.now.frames plan r.1.items) }
         ensures reader_count { IfOk result (λ r. vec_len r.2 ≡ readers) }
         ensures readers { IfOk result (λ r. (k : ℕ) → k < readers → slice_get r.2.items k ≡ Some (new_reader r.0.board)) }
     {
@@ -208,7 +209,7 @@ impl<A: Application> RunningCluster<A> {
             &ring,
             &losses,
             config.replicas,
-            rounds,
+            plan,
         )?;
         Ok((
             RunningCluster {

@@ -6,7 +6,7 @@ ghost use Rattle.ledger_model.specs.Limits.{max_history_len};
 ghost use Rattle.commit_board.specs.Seats.{IsLeastRead};
 ghost use Rattle.locked_replica.specs.Applying.{AppliesEach, AppliesSome, IsSound};
 ghost use Rattle.replica_turns.specs.Turns.{IsStatusOf, height_in};
-ghost use Rattle.cluster_workers.specs.Looks.{IsNextByBoard};
+ghost use Rattle.replica_turns.specs.OwnEvents.{own_of};
 
 use abci::Application;
 use commit_board::{Board, ReaderSeat, WriterSeat};
@@ -23,6 +23,17 @@ pub(crate) struct TurnTaker {
     reader: ReaderSeat,
     ghost tied: { seat.board ≡ arc_value board },
     ghost reads: { reader.board ≡ arc_value board },
+}
+
+/// What a worker sees before a turn.
+#[derive(Clone, Copy, Drop)]
+pub(crate) struct Look {
+    /// The round that the replica has open.
+    pub(crate) round: u32,
+    /// A height that all replicas committed.
+    pub(crate) least: Height,
+    /// What the replica does by itself next.
+    pub(crate) own: OwnEvents,
 }
 
 /// The outcome of a turn.
@@ -69,19 +80,25 @@ impl TurnTaker {
         self.board.least(&mut self.reader)
     }
 
-    /// The replica's round, and what it does by itself next: it gives up the heights up to the least that this call reads
-    /// of all replicas. `proposed` is the greatest height that the replica has proposed.
+    /// The replica's round, the least height that this call reads of all replicas, and what the replica does by itself next, by that height.
+    /// `proposed` is the greatest height that the replica has proposed, `ran_in` the round in which it ran its last block.
     pub(crate) fn look<A: Application>(
         &mut self,
         state: &State<A>,
         proposed: u32,
-    ) -> (u32, OwnEvents)
-        ensures round { result.0 ≡ clock_at state.now.entries }
-        ensures own { IsNextByBoard self.old.reader self.new.reader (arc_value self.old.board) state.now proposed result.1 }
+        ran_in: u32,
+    ) -> Look
+        ensures round { result.round ≡ clock_at state.now.entries }
+        ensures read { IsLeastRead self.old.reader self.new.reader (arc_value self.old.board) result.least }
+        ensures own { result.own ≡ own_of A.meaning state.now proposed ran_in result.least }
         ensures seat { self.new.seat ≡ self.old.seat }
     {
         let least = self.least();
-        (state.clock(), own_of(state, proposed, least))
+        Look {
+            round: state.clock(),
+            least,
+            own: own_of(state, proposed, ran_in, least),
+        }
     }
 
     /// A turn of this replica with these events. Another replica gets none.

@@ -7,7 +7,8 @@ use crate::inboxes::{Receiver, Sender};
 use crate::round_clock::{Progress, RoundClock};
 use crate::sending::send;
 use crate::stop::Stop;
-use crate::turn_taker::{TurnOutcome, TurnTaker};
+use crate::turn_taker::{Look, TurnOutcome, TurnTaker};
+use crate::work_plan::WorkPlan;
 use abci::Application;
 use bytes::Bytes;
 use key_ring::KeyRing;
@@ -39,11 +40,13 @@ pub struct Worker<A: Application> {
     senders: Vec<Sender>,
     /// The keys under which frames are checked before a turn.
     ring: Arc<KeyRing>,
-    rounds: u32,
+    plan: WorkPlan,
     /// The number of rounds that have ended, including those whose end was refused.
     ended: u32,
     /// The greatest height that was proposed.
     proposed: u32,
+    /// The round in which the replica ran its last block.
+    ran_in: u32,
     /// The frames for the next turns, and those that wait for the next round.
     frames: WaitingFrames,
     /// The number of frames that were put into inboxes since the clock was last asked.
@@ -65,11 +68,12 @@ impl<A: Application> Model for Worker<A> {
       board = w.turn_taker.seat.board;
       replica = w.turn_taker.seat.replica;
       version = w.version;
-      rounds = w.rounds;
+      plan = w.plan;
       inbox = w.receiver;
       peers = w.senders.items;
       ended = w.ended;
       proposed = w.proposed;
+      ran_in = w.ran_in;
       is_full = w.is_full;
     } };
 }
@@ -85,9 +89,10 @@ impl<A: Application> Drop for Worker<A> {
             receiver: _receiver,
             senders: _senders,
             ring: _ring,
-            rounds: _rounds,
+            plan: _plan,
             ended: _ended,
             proposed: _proposed,
+            ran_in: _ran_in,
             frames: _frames,
             sent: _sent,
             is_full: _is_full,
@@ -148,17 +153,18 @@ impl<A: Application> Worker<A> {
         receiver: Receiver,
         senders: Vec<Sender>,
         ring: Arc<KeyRing>,
-        rounds: u32,
+        plan: WorkPlan,
     ) -> Self
         ensures { result ≡ record {
           board = turn_taker.seat.board;
           replica = turn_taker.seat.replica;
           version = version;
-          rounds = rounds;
+          plan = plan;
           inbox = receiver;
           peers = senders.items;
           ended = 0;
           proposed = 0;
+          ran_in = 0;
           is_full = false;
         } }
     {
@@ -170,9 +176,10 @@ impl<A: Application> Worker<A> {
             receiver,
             senders,
             ring,
-            rounds,
+            plan,
             ended: 0,
             proposed: 0,
+            ran_in: 0,
             frames: WaitingFrames::new(alloc),
             sent: 0,
             is_full: false,
@@ -188,10 +195,10 @@ impl<A: Application> Worker<A> {
         self.turn_taker.replica()
     }
 
-    /// The replica's round, and what it does by itself next, under its lock.
-    fn look<R: Wait>(&mut self, rt: &R) -> (u32, OwnEvents) {
+    /// What the worker sees of its replica, under its lock, and of the board.
+    fn look<R: Wait>(&mut self, rt: &R) -> Look {
         let state = self.replica.lock(rt);
-        self.turn_taker.look(&*state, self.proposed)
+        self.turn_taker.look(&*state, self.proposed, self.ran_in)
     }
 
     /// The frames' own parts of which the replica doesn't know whether they are signed; none if memory runs out.
@@ -257,6 +264,17 @@ impl<A: Application> Worker<A> {
         self.check_reports(rt, &reports);
     }
 
+    /// What the replica does of this by the worker's plan, while the frames that are due wait for it, and the events of that.
+    fn planned(&self, own: OwnEvents) -> Result<(OwnEvents, Vec<Event>), AllocError> {
+        let own = if self.plan.creates_empty_blocks {
+            own
+        } else {
+            own.without_empty_block(self.version, self.alloc, self.frames.due())?
+        };
+        let events = own.events(self.alloc)?;
+        Ok((own, events))
+    }
+
     /// Takes as many frames from the inbox as there is room for, while the round `clock` is open. Returns how many it took.
     fn take_in<R: Wait>(&mut self, rt: &R, clock: u32) -> usize {
         let room = self.frames.room();
@@ -312,8 +330,8 @@ impl<A: Application> Worker<A> {
 
     /// Gives the replica a turn with what it does by itself, if that is anything. A refused event and those after it are
     /// dropped: the next pass plans them anew. Returns the number of events that were taken.
-    fn act<R: Wait, G: TurnGate>(&mut self, rt: &R, gate: &G, own: &OwnEvents) -> usize {
-        let Ok(events) = own.events(self.alloc) else {
+    fn act<R: Wait, G: TurnGate>(&mut self, rt: &R, gate: &G, round: u32, own: OwnEvents) -> usize {
+        let Ok((own, events)) = self.planned(own) else {
             self.note_fault(Some(ApplyFault::NoMemory));
             return 0;
         };
@@ -322,6 +340,7 @@ impl<A: Application> Worker<A> {
         }
         let outcome = self.turn(rt, gate, events);
         self.proposed = own.proposed_after(self.proposed, outcome.taken);
+        self.ran_in = own.ran_in_after(self.ran_in, round, outcome.taken);
         self.note_fault(outcome.fault);
         outcome.taken
     }
@@ -403,14 +422,15 @@ impl<A: Application> Worker<A> {
         gate: &G,
         may_end: bool,
     ) -> Pass {
-        let (round, own) = self.look(rt);
+        let Look { round, least, own } = self.look(rt);
         let taken = self.take_in(rt, round);
-        let done = self.act(rt, gate, &own);
+        let done = self.act(rt, gate, round, own);
         let delivered = self.hand_over(rt, gate);
         let progress = Progress {
             taken,
             sent: mem::replace(&mut self.sent, 0),
             events: done.saturating_add(delivered),
+            least: least.number(),
         };
         let is_due = may_end && clock.is_due(self.turn_taker.replica(), self.ended, progress);
         if is_due {
@@ -435,6 +455,7 @@ impl<A: Application> Worker<A> {
             taken: 0,
             sent: mem::replace(&mut self.sent, 0),
             events: 0,
+            least: 0,
         };
         let is_due = may_end && clock.is_due(self.turn_taker.replica(), self.ended, progress);
         if is_due {
@@ -456,7 +477,7 @@ impl<A: Application> Worker<A> {
     ) {
         for _ in rt.forever() {
             let rings = self.receiver.rings();
-            let may_end = self.ended < self.rounds && !stop.is_asked();
+            let may_end = self.ended < self.plan.rounds && !stop.is_asked();
             let pass = if self.is_full {
                 self.pass_full(clock, may_end)
             } else {

@@ -5,7 +5,7 @@ use Rattle.app_states.specs.ProgramWords.{ProgramWords}
 use Rattle.ledger_model.specs.Meanings.{Meanings}
 use Rattle.std.proofs.Common.{◌≡◌, ◌∙◌, true, false, List, refl, sym, ap, subst, codes, inl, inr}
 use Rattle.std.specs.Prelude.{◌⊎◌, Option, Some, None, Result, Ok, Err, IfOk, IfErr, OnErr, IsOkAnd, MatchResult, option_map}
-use Rattle.std.specs.Prelude.{option_and_then, find}
+use Rattle.std.specs.Prelude.{◌↔◌, Bool, IsTrue, not, option_and_then, find}
 use Rattle.std.specs.Str.{bytes_eq}
 use Rattle.std.proofs.lemmas.Bool.Decides.{not_from_Decides}
 use Rattle.std.proofs.lemmas.Option.{same_Some}
@@ -150,6 +150,11 @@ source_is f id = go (find (λ (e : Entry). bytes_eq e.0.now id) f.entries.items)
         ≡ option_and_then (λ (r : Row). r.source) (option_map row_of o)
     go None = refl
     go (Some e) = refl
+
+-- a test that is turned round says the contrary
+pub not_so : (b : Bool) (P : Type 0) → IsTrue b ↔ P → IsTrue (not b) ↔ (P → ⊥)
+not_so true P told = (λ bad. absurd cc, λ other. absurd (other (told.0 refl)))
+not_so false P told = (λ _ holds. let bad = told.1 holds in absurd cc, λ _. refl)
 
 -- settings that are set are set as those of the subcommand
 pub set_alike : (kinds : AppKinds) (meaning : Meanings) → {T : Type 0} (Q : T → Settings → Type 0) (S : T → Type 0) (o : Option (Text × List Row))

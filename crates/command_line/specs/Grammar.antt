@@ -128,9 +128,11 @@ with_run program a =
 -- the options of a running cluster, which `abft cluster` and `abft serve` have
 abbrev pub with_running : ProgramWords → App → App
 with_running program a =
-    with_rule (with_rule (with_rule (with_run program (with_cluster program a))
+    with_rule (with_rule (with_rule (with_rule (with_rule (with_run program (with_cluster program a))
     (flag_rule (codes "quiet")))
     (flag_rule (codes "stop-at-eof")))
+    (flag_rule (codes "no-empty-blocks")))
+    (flag_rule (codes "steady")))
     (optional_rule (codes "histories"))
 
 -- `abft cluster`: its options

@@ -292,13 +292,16 @@ pub record SetsSimulate (rows : List Row) (s : SimulateSettings) : Type 0 where
   pub seed : IsSeed rows s.seed
   pub histories : IsTrue s.histories ↔ IsNamed rows (codes "histories")
 
--- The options of `abft cluster` set these settings. The run ends with standard input, if the words contain that option. The histories
--- are written to the file that the words name, if they name one.
+-- The options of `abft cluster` set these settings. The run ends with standard input, and rounds are short again after each block, if the
+-- words contain those options; blocks may be empty, unless the words contain `--no-empty-blocks`. The histories are written to the file that
+-- the words name, if they name one.
 pub record SetsRunning (kinds : AppKinds) (meaning : Meanings) (rows : List Row) (s : ClusterSettings) : Type 0 where
   pub cluster : SetsCluster kinds rows s.cluster
   pub tx : IsAccepted meaning rows (codes "tx") s.cluster.config.kind s.tx
   pub rounds : IsNumberWithin rows (codes "rounds") 0 4000000000 s.rounds
   pub base : IsNumberWithin rows (codes "base-ms") 1 60000 s.base_ms
+  pub steady : IsTrue s.is_steady ↔ IsNamed rows (codes "steady")
+  pub creates_empty : IsTrue s.creates_empty_blocks ↔ (IsNamed rows (codes "no-empty-blocks") → ⊥)
   pub log : SetsLog rows s.log
   pub stops : IsTrue s.stops_at_eof ↔ IsNamed rows (codes "stop-at-eof")
   pub histories : option_map string_bytes s.histories ≡ first_of (codes "histories") rows

@@ -108,11 +108,15 @@ fn cluster_settings<'a, A: Opening>(
     let base_ms = number(matches, "base-ms", 1, 60_000)?;
     let log = log_filter(matches)?;
     let histories = file(alloc, matches, "histories")?;
+    let is_sparing = is_named(matches, "no-empty-blocks");
+    let is_steady = is_named(matches, "steady");
     Ok(ClusterSettings {
         cluster,
         tx,
         rounds,
         base_ms,
+        is_steady,
+        creates_empty_blocks: !is_sparing,
         log,
         stops_at_eof: is_named(matches, "stop-at-eof"),
         histories,

@@ -92,6 +92,20 @@ pub(crate) const STOP_EARLY: Argument = Argument {
     help: "Stops the cluster, and its listener, when standard input ends",
 };
 
+/// Whether a run opens heights for waiting transactions alone.
+pub(crate) const NO_EMPTY_BLOCKS: Argument = Argument {
+    name: "no-empty-blocks",
+    kind: Kind::Flag,
+    help: "Opens a height only for a transaction that waits, or once another replica has opened it",
+};
+
+/// Whether the rounds of a run are short again after each block.
+pub(crate) const STEADY: Argument = Argument {
+    name: "steady",
+    kind: Kind::Flag,
+    help: "Lets rounds last as at the start again, each time that all replicas have run another block",
+};
+
 /// The file to which a run writes its histories.
 pub(crate) const HISTORIES: Argument = Argument {
     name: "histories",

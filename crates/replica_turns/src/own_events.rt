@@ -1,24 +1,31 @@
-//! What a replica does by itself: it runs the decided block, opens the height after the committed one, and gives up the
-//! heights that all replicas committed.
-ghost use Rattle.std.specs.Prelude.{◌≡◌, ◌≤◌, ◌+◌, take, IfOk};
+//! What a replica does by itself: it runs the decided block, opens the height after the committed one once all replicas
+//! committed that, or after a while, and gives up the heights that all replicas committed.
+ghost use Rattle.std.specs.Prelude.{◌≡◌, ◌≤◌, ◌+◌, max, take, IfOk};
 ghost use Rattle.ledger_model.specs.Commits.{floor_of};
 ghost use Rattle.replica_turns.specs.Turns.{height_in};
-ghost use Rattle.replica_turns.specs.OwnEvents.{is_next_decided, raised_floor, own_of, own_events, proposed_in};
+ghost use Rattle.replica_turns.specs.OwnEvents.{is_next_decided, may_open_next, raised_floor, own_of, own_events, proposed_in, run_in, without_empty_block};
 
+use crate::early::has_frame_about;
 use abci::Application;
-use ledger_model::{Event, Height};
+use bytes::Bytes;
+use ledger_model::{Event, Height, Version};
 use locked_replica::State;
 use std::alloc::{AllocError, Global};
+
+/// The number of rounds in a phase.
+const ROUNDS_IN_PHASE: u32 = 4;
 
 /// What a replica does by itself next.
 #[derive(Clone, Copy, Drop)]
 pub struct OwnEvents {
     /// Whether it runs the next block.
     pub is_decided: bool,
-    /// The height that it then opens, if any.
+    /// The height that it opens, if any. It opens none in the turn in which it runs a block.
     pub proposal: Option<Height>,
     /// The floor that it then raises, if any: it gives up all heights below.
     pub floor: Option<Height>,
+    /// Whether no transaction waits for a block of the replica: the proposal would have an empty batch.
+    pub is_pool_empty: bool,
 }
 
 /// Whether the height `next`, which follows the committed one, is decided.
@@ -43,21 +50,32 @@ fn raised_floor<A: Application>(state: &State<A>, least: Height) -> Option<Heigh
     }
 }
 
-/// What the replica does by itself next. `proposed` is the greatest height that it has proposed, and `least` is a height
-/// that all replicas committed.
-pub fn own_of<A: Application>(state: &State<A>, proposed: u32, least: Height) -> OwnEvents
-    ensures { result ≡ own_of state.now proposed least }
+/// Whether the replica may open the height after the committed one: all replicas committed that, or as many phases have ended as there
+/// are replicas since this replica committed it, in the round `ran_in`. So a silent replica holds up nobody for longer.
+fn may_open_next<A: Application>(state: &State<A>, ran_in: u32, least: Height) -> bool
+    ensures { result ≡ may_open_next state.now ran_in least }
+{
+    let patience = ROUNDS_IN_PHASE * u32::from(state.config().replicas);
+    state.height() <= least.number() || patience <= state.clock().saturating_sub(ran_in)
+}
+
+/// What the replica does by itself next. `proposed` is the greatest height that it has proposed, `ran_in` the round in which it
+/// ran its last block, and `least` a height that all replicas committed.
+pub fn own_of<A: Application>(
+    state: &State<A>,
+    proposed: u32,
+    ran_in: u32,
+    least: Height,
+) -> OwnEvents
+    ensures { result ≡ own_of A.meaning state.now proposed ran_in least }
 {
     let committed = state.height();
     // The floor is at most one above the committed height: it is read for the proof.
     let _ = state.floor();
     let is_decided = is_decided_at(state, committed + 1);
-    let next = if is_decided {
-        committed + 2
-    } else {
-        committed + 1
-    };
-    let is_open = proposed < next && next <= Height::MAX;
+    let next = committed + 1;
+    let is_new = proposed < next && next <= Height::MAX;
+    let is_open = !is_decided && is_new && may_open_next(state, ran_in, least);
     OwnEvents {
         is_decided,
         proposal: if is_open {
@@ -66,10 +84,48 @@ pub fn own_of<A: Application>(state: &State<A>, proposed: u32, least: Height) ->
             None
         },
         floor: raised_floor(state, least),
+        is_pool_empty: state.waiting() == 0,
     }
 }
 
 impl OwnEvents {
+    /// What a replica that creates no empty blocks does of this, while these frames wait for it: it opens a height with an empty pool
+    /// only if one of them is a frame of this version about that height, since another replica has opened it then. The only error is
+    /// allocation failure.
+    pub fn without_empty_block(
+        self,
+        version: Version,
+        alloc: Global,
+        frames: &[Bytes],
+    ) -> Result<OwnEvents, AllocError>
+        ensures { IfOk result (λ own. own ≡ without_empty_block version frames.now self) }
+    {
+        let Some(height) = self.proposal else {
+            return Ok(self);
+        };
+        if !self.is_pool_empty || has_frame_about(version, alloc, height, frames)? {
+            return Ok(self);
+        }
+        Ok(OwnEvents {
+            is_decided: self.is_decided,
+            proposal: None,
+            floor: self.floor,
+            is_pool_empty: self.is_pool_empty,
+        })
+    }
+
+    /// The round in which the replica ran its last block, once it took the first `taken` events of its turn in this round, given that it
+    /// was `before`.
+    pub fn ran_in_after(&self, before: u32, round: u32, taken: usize) -> u32
+        ensures { result ≡ run_in before round (take taken (own_events self.now)) }
+    {
+        if self.is_decided && 0 < taken {
+            round
+        } else {
+            before
+        }
+    }
+
     /// The greatest height that the replica has proposed once it took the first `taken` events of its turn, given that it
     /// was `before`.
     pub fn proposed_after(&self, before: u32, taken: usize) -> u32

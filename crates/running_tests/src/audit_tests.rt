@@ -4,7 +4,7 @@ ghost use Rattle.std.specs.Prelude.{◌≡◌};
 use crate::cluster_tests::{first_behind, reader_of};
 use crate::history_gate::{HistoryGate, SETS, histories};
 use crate::quiet_clock::QuietClock;
-use crate::replicas::{four, replicas};
+use crate::replicas::{four, plan, replicas};
 use app_kinds::AnyKind;
 use app_states::new_apps;
 use cluster_workers::{NoGate, RunningCluster, Stop, Worker, run_all};
@@ -124,7 +124,7 @@ fn histories_of_a_running_cluster_are_replays(rt: HostRuntime) -> Result<(), Fai
     let alloc = rt.alloc();
     let keys = four()?;
     let states = replicas(&rt, alloc, &keys)?;
-    let (cluster, workers, _) = RunningCluster::new(alloc, &keys.config, states, ROUNDS, 0)?;
+    let (cluster, workers, _) = RunningCluster::new(alloc, &keys.config, states, plan(ROUNDS), 0)?;
     let auditor = Auditor {
         config: keys.config,
         ring: ring_of(&rt, &cluster)?,
@@ -148,7 +148,7 @@ fn sixteen_rounds_commit_one_ledger(rt: HostRuntime) -> Result<(), Fail> {
         alloc,
         &keys.config,
         states,
-        FIRST_ROUNDS,
+        plan(FIRST_ROUNDS),
         1,
     )?;
     let reader = reader_of(&cluster, reading)?;

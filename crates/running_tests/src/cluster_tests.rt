@@ -5,7 +5,7 @@ ghost use Rattle.commit_board.specs.Seats.{new_reader};
 use crate::following::is_followed;
 use crate::meeting_gate::MeetingGate;
 use crate::quiet_clock::QuietClock;
-use crate::replicas::{four, replicas};
+use crate::replicas::{four, plan, replicas};
 use app_kinds::AnyKind;
 use cluster_workers::{RunningCluster, Stop, run_all};
 use commit_board::ReaderSeat;
@@ -110,7 +110,13 @@ fn four_replicas_commit_and_two_workers_meet(rt: HostRuntime) -> Result<(), Fail
     let alloc = rt.alloc();
     let keys = four()?;
     let states = replicas(&rt, alloc, &keys)?;
-    let (cluster, workers, reading) = RunningCluster::new(alloc, &keys.config, states, ROUNDS, 1)?;
+    let (cluster, workers, reading) = RunningCluster::new(
+        alloc,
+        &keys.config,
+        states,
+        plan(ROUNDS),
+        1,
+    )?;
     let reader = reader_of(&cluster, reading)?;
     let clock = QuietClock::new(&rt, alloc, 4)?;
     let gate = MeetingGate::new();

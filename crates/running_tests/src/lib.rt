@@ -24,6 +24,8 @@ mod lock_tests;
 #[cfg(test)]
 mod meeting_gate;
 #[cfg(test)]
+mod opening_tests;
+#[cfg(test)]
 mod pacer_tests;
 #[cfg(test)]
 mod quiet_clock;

@@ -1,5 +1,5 @@
 //! When rounds end, in milliseconds.
-use round_pacer::{due, until_due};
+use round_pacer::{Schedule, due, until_due};
 
 /// The start, the time, the base time, the number of ends so far, and how many more are due.
 const CASES: [(u64, u64, u32, u32, u32); 16] = [
@@ -48,5 +48,56 @@ const PAUSES: [(u64, u64, u32, u32, u64); 6] = [
 fn the_next_end_is_awaited_by_the_millisecond(rt: HostRuntime) {
     for &(start, now, base, ended, wanted) in &PAUSES {
         assert_eq!(rt; until_due(start, now, base, ended), wanted, "{now} {ended}");
+    }
+}
+
+/// The round and the moment at which a schedule began anew, the time, the number of ends so far, whether the next is due, and the time until
+/// then. The base time is 10 milliseconds.
+const ANEW: [(u32, u64, u64, u32, bool, u64); 8] = [
+    // From the start on the ends are due after 11, 23 and 36 milliseconds.
+    (0, 0, 11, 0, true, 0),
+    (0, 0, 22, 1, false, 1),
+    (0, 0, 36, 2, true, 0),
+    // It began anew at the end of round 3, after 40 milliseconds: the next ends are due after 51 and 63.
+    (3, 40, 50, 3, false, 1),
+    (3, 40, 51, 3, true, 0),
+    (3, 40, 51, 4, false, 12),
+    // The ends up to that one are due from that moment on.
+    (3, 40, 40, 0, true, 0),
+    (3, 40, 39, 2, false, 1),
+];
+
+#[test]
+fn a_schedule_goes_on_from_where_it_began_anew(rt: HostRuntime) {
+    for &(round, moment_ms, now, ended, is_due, left) in &ANEW {
+        let schedule = Schedule { round, moment_ms };
+        let found = (
+            schedule.is_due(now, 10, ended),
+            schedule.until_due(now, 10, ended),
+        );
+        assert!(rt; found == (is_due, left), "{round} {now} {ended} {found:?}");
+    }
+}
+
+/// The time and the round at which a schedule begins anew, one after another, and the round and the moment that it then has. The base time is
+/// 10 milliseconds.
+const BEGINNINGS: [(u64, u32, u32, u64); 4] = [
+    (40, 3, 3, 40),
+    // An earlier round: that of the last time stays.
+    (45, 2, 3, 45),
+    // The end of round 5 is due 23 milliseconds after that of round 3.
+    (50, 5, 5, 68),
+    (100, 5, 5, 100),
+];
+
+#[test]
+fn a_schedule_begins_anew_at_a_round_end(rt: HostRuntime) {
+    let mut schedule = Schedule::new();
+    for &(now, at, round, moment_ms) in &BEGINNINGS {
+        schedule.begin_anew(now, 10, at);
+        assert!(rt;
+            schedule == Schedule { round, moment_ms },
+            "{now} {at} {schedule:?}"
+        );
     }
 }

@@ -1,6 +1,6 @@
 //! A clock that ends a round only if nothing is left to do: all inboxes are empty, and all workers are idle.
 use crate::meeting_gate::MAX_TURNS;
-use cluster_workers::{Progress, RoundClock};
+use cluster_workers::{Pace, Progress, RoundClock};
 use ledger_model::ReplicaId;
 use std::alloc::{AllocError, Global};
 use std::sync::{Mutex, Wait};
@@ -86,10 +86,15 @@ impl<'a, R: Wait> QuietClock<'a, R> {
 }
 
 impl<R: Wait> RoundClock for QuietClock<'_, R> {
-    ghost base_ms = { λ _. 0 };
+    ghost use Rattle.std.specs.Prelude.{false};
 
-    fn base_ms(&self) -> u32 {
-        0
+    ghost pace = { λ _. record { base_ms = 0; is_steady = false } };
+
+    fn pace(&self) -> Pace {
+        Pace {
+            base_ms: 0,
+            is_steady: false,
+        }
     }
 
     fn is_due(&self, replica: ReplicaId, ended: u32, progress: Progress) -> bool {

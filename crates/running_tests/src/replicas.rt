@@ -5,6 +5,7 @@ ghost use Rattle.cluster_setup.specs.Keys.{ring_of, secret_of, unused};
 use app_kinds::AnyKind;
 use bytes::Bytes;
 use cluster_setup::{ClusterKeys, ClusterSeed, all_keys};
+use cluster_workers::WorkPlan;
 use key_ring::{KeyRing, Signer};
 use ledger_model::{AppKind, Config, Event, ReplicaId};
 use lm_ots::{Params, TreeHeight, Width};
@@ -32,6 +33,14 @@ pub(crate) fn four_with_frames(version: u8) -> Result<ClusterSeed, Fail> {
         params: PARAMS,
         seed: [0; 32],
     })
+}
+
+/// Workers that end this number of rounds, and create empty blocks.
+pub(crate) fn plan(rounds: u32) -> WorkPlan {
+    WorkPlan {
+        rounds,
+        creates_empty_blocks: true,
+    }
 }
 
 fn randoms<R: RandomSource>(rt: &R) -> Result<[RandomState; 2], Fail> {

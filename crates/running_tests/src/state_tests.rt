@@ -1,5 +1,5 @@
 //! Tests of whose state a replica's lock guards: number, configuration and keys are compared.
-use crate::replicas::{four, four_with_frames, replicas};
+use crate::replicas::{four, four_with_frames, plan, replicas};
 use app_kinds::AnyKind;
 use cluster_setup::ClusterSeed;
 use cluster_workers::RunningCluster;
@@ -16,7 +16,7 @@ fn cluster_of<R: RandomSource>(
     keys: &ClusterSeed,
 ) -> Result<RunningCluster<AnyKind>, Fail> {
     let states = replicas(rt, alloc, keys)?;
-    let (cluster, _, _) = RunningCluster::new(alloc, &keys.config, states, 1, 0)?;
+    let (cluster, _, _) = RunningCluster::new(alloc, &keys.config, states, plan(1), 0)?;
     Ok(cluster)
 }
 

@@ -42,7 +42,7 @@ loop-number-init g c = record {
 pub loop-number-preserved : goal.loop-number-preserved
 loop-number-preserved g c =
     let board = arc_value c.args.board.now in
-    let rounds = c.args.rounds in
+    let plan = c.args.plan in
     let version = c.args.version in
     let number = c.loop-number.number in
     let taken = one_taken (arc_value c.args.board.now) c.args.count number (into_iter_items c.loop-number.seats) c.in-Some.seat
@@ -59,23 +59,23 @@ loop-number-preserved g c =
     let others = rw c.in-Some-next-3.ensures.cases.0 at was.1.1 in
     let all : c.in-Some-next-3.senders.items ≡ peers =
     All-head (λ s. s.items ≡ peers) c.in-Some-next-3.senders (into_iter_items c.next-in-loop-number-3.new.self) others in
-    let linked : AreLinked board version rounds number peers c.loop-number.workers.items
+    let linked : AreLinked board version plan number peers c.loop-number.workers.items
     (inbox ∷ into_iter_items c.next-in-loop-number-2.new.self) =
     rw c.in-Some-next-2.ensures.cases.0 at was.1.2 in
-    let is : worker ≡ worker_of board version rounds peers (record { replica = number; inbox = inbox }) =
+    let is : worker ≡ worker_of board version plan peers (record { replica = number; inbox = inbox }) =
     c.new.ensures
-    ∙ ap (λ (b : BoardId). worker_of b version rounds c.in-Some-next-3.senders.items
+    ∙ ap (λ (b : BoardId). worker_of b version plan c.in-Some-next-3.senders.items
     (record { replica = c.new-turn_taker.result.seat.replica; inbox = inbox })) published
-    ∙ ap (λ (k : ℕ). worker_of board version rounds c.in-Some-next-3.senders.items (record { replica = k; inbox = inbox }))
+    ∙ ap (λ (k : ℕ). worker_of board version plan c.in-Some-next-3.senders.items (record { replica = k; inbox = inbox }))
     (turn_taker ∙ own)
-    ∙ ap (λ (l : List PeerInbox). worker_of board version rounds l (record { replica = number; inbox = inbox })) all in
+    ∙ ap (λ (l : List PeerInbox). worker_of board version plan l (record { replica = number; inbox = inbox })) all in
     record {
       workers = (
         was.0,
         (
           was.1.0,
           All-tail (λ s. s.items ≡ peers) c.in-Some-next-3.senders (into_iter_items c.next-in-loop-number-3.new.self) others,
-          rw grown (linked_more board version rounds number peers c.loop-number.workers.items inbox
+          rw grown (linked_more board version plan number peers c.loop-number.workers.items inbox
               (into_iter_items c.next-in-loop-number-2.new.self) worker is linked),
         ),
       );
@@ -96,7 +96,7 @@ returns g c =
     record {
       inboxes = was.0;
       count = was.1.0;
-      are = all_linked (arc_value c.args.board.now) c.args.version c.args.rounds c.loop-number.number
+      are = all_linked (arc_value c.args.board.now) c.args.version c.args.plan c.loop-number.number
           (peers_from 0 was.0) c.loop-number.workers.items left none
           was.1.2;
     }

@@ -14,7 +14,7 @@ abbrev pub invariant-loop-number : goal.invariant-loop-number
 invariant-loop-number g l = record {
   workers : (inboxes : List InboxId) × ((length inboxes ≡ l.count)
       × All (λ s. s.items ≡ peers_from 0 inboxes) (into_iter_items l.senders)
-      × AreLinked (arc_value l.board) l.version l.rounds l.number (peers_from 0 inboxes) l.workers.items (into_iter_items l.receivers));
+      × AreLinked (arc_value l.board) l.version l.plan l.number (peers_from 0 inboxes) l.workers.items (into_iter_items l.receivers));
   seats : into_iter_items l.seats ≡ seats_from (arc_value l.board) l.count l.number;
   enough : l.count ≤ length (into_iter_items l.looking) + l.number;
   looking : All (λ (s : ReaderSeatView). s.board ≡ arc_value l.board) (into_iter_items l.looking);

@@ -4,7 +4,7 @@ use Rattle.clap.specs.Words.{found_of, rows_of}
 use Rattle.command_line.specs.Options.{IsAccepted, SetsRunning, WantsMemory}
 use Rattle.cluster_setup.specs.declared.cluster_settings.ClusterSettings.{ClusterSettings}
 use Rattle.command_line.proofs.NumberLemmas.{same_kind}
-use Rattle.command_line.proofs.MatchesLemmas.{none_set}
+use Rattle.command_line.proofs.MatchesLemmas.{none_set, not_so}
 use Rattle.clap.proofs.TakesLemmas.{passed_up}
 use Rattle.command_line.proofs.settings_of_words.cluster_settings.Goals as goal
 
@@ -38,6 +38,8 @@ returns-clause-some g c = record {
   tx = c.in_ok-tx.ensures.some;
   rounds = c.in_ok-rounds.ensures.some;
   base = c.in_ok-base_ms.ensures.some;
+  steady = c.is_named-is_steady.ensures;
+  creates_empty = not_so c.is_named-is_sparing.result _ c.is_named-is_sparing.ensures;
   log = c.in_ok-log.ensures.some;
   stops = c.is_named.ensures;
   histories = c.in_ok-histories.ensures;
