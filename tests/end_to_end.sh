@@ -31,6 +31,26 @@ signs 'a frame under a wide key' a04eda7e31c29f1f518583b0b724a00ab835f49d22c12e5
 signs 'a frame in a larger cluster' b113df2cf81f4f1f9e2c836ac0c4d2dc5c8a13c24d658203c5c5b57e4aee84d6 \
     ack --replica 6 --n 7 --t 2 --value "'k=\\00v'" --height 9 --phase 3
 signs 'a frame under a tall tree' e166d5da347005c0059f3877ff185008b2c48903f4028d030cd853e270966c7a ack --tree 10
+# The seed of a file: 64 digits, with or without a line feed, or 32 bytes.
+umask 077
+printf '%s\n' "$ones" >"$room/key-line"
+printf '%s' "$ones" >"$room/key-digits"
+printf '\x11%.0s' {1..32} >"$room/key-bytes"
+printf '%s\r\n' "$ones" >"$room/key-bad"
+umask 022
+cp "$room/key-line" "$room/key-shared"
+chmod 640 "$room/key-shared"
+for key in line digits bytes; do
+    signs "a frame under the seed of a file: $key" a04eda7e31c29f1f518583b0b724a00ab835f49d22c12e515e9e93130b076e18 \
+        report --replica 2 --value b=7 --height 4096 --phase 1000000000 --w 8 --seed-file "'$room/key-$key'"
+done
+faults 'a seed that others may read' 0 "warning: other users may read the seed in the file $room/key-shared"$'\n' \
+    "'$abft' deliver --seed-file '$room/key-shared' </dev/null"
+faults 'a seed file that is absent' 3 "error: can't read the file $room/none: No such file or directory (os error 2)"$'\n' \
+    "'$abft' sign report --seed-file '$room/none'"
+faults 'a seed file that is a folder' 3 "error: can't read the file $room: Is a directory (os error 21)"$'\n' \
+    "'$abft' serve --seed-file '$room' --histories '$room/unmade'"
+runs 'no histories of such a run' 1 '' "test -e '$room/unmade'"
 runs 'the report is spelled exactly' 0 '00000945010000000100000001000001''03613d31010103613d3100092c' \
     "$report | head -c 29 | od -An -v -tx1 | tr -d ' \\n'"
 runs 'its length' 0 $'2377\n' "$report | wc -c"
@@ -109,7 +129,8 @@ refuses "error: --n is a number from 4 to 13, not '14'" sign report --n 14 --t 4
 refuses "error: --n 6 is too few for --t 2: n is at least 3t + 1" deliver --n 6 --t 2
 refuses "error: --t is a number from 1 to 4, not '0'" sign report --t 0
 refuses "error: --t is a number from 1 to 4, not '+1'" sign report --t +1
-refuses "error: --kind is a number from 1 to 3, not '4'" sign report --kind 4
+refuses "error: --kind is 1, 2, 3, kvstore, counter or purse, not '4'" sign report --kind 4
+refuses "error: --kind is 1, 2, 3, kvstore, counter or purse, not 'own'" sign report --kind own
 refuses "error: --w is 4 or 8, not '5'" sign report --w 5
 refuses "error: --w is 4 or 8, not '16'" sign report --w 16
 refuses "error: --tree is 5 or 10, not '6'" deliver --tree 6
@@ -139,6 +160,8 @@ refuses "error: --tx 'a=1' is refused by the application's check: code 1" cluste
 refuses "error: --tx 'a=1' is refused by the application's check: code 1" serve --kind 3
 refuses "error: --tx 'a=1234567' is refused by the application's check: code 1" cluster --kind 2 --tx a=1234567
 refuses "error: --value '${payment/01/00}' is refused by the application's check: code 4" deliver --kind 3 --value "'${payment/01/00}'"
+runs 'a cluster with a random seed' 0 $'commits 0 0\ncommits 1 0\ncommits 2 0\ncommits 3 0\nledger 0\n' "'$abft' cluster --quiet --seed random --rounds 0"
+runs 'a purse by its name' 0 $'accepted\n' "$report --kind purse --value '$payment' | $deliver --kind 3 --value '$payment'"
 runs 'a pool that a purse checks' 0 $'commits 0 0\ncommits 1 0\ncommits 2 0\ncommits 3 0\nledger 0\n' "'$abft' cluster --quiet --kind 3 --tx '$payment' --rounds 0"
 refuses 'error: a word of the command line is not UTF-8' sign report --value $'\xff'
 refuses 'error: a word of the command line is not UTF-8' $'\xff'
@@ -171,6 +194,12 @@ refuses "error: a value is required for '--value <value>' but none was supplied
 For more information, try '--help'." deliver --value
 refuses "error: --seed is 64 hexadecimal digits, not '00'" simulate --seed 00
 refuses "error: --seed is 64 hexadecimal digits, not '${ones}1'" simulate --histories --seed "${ones}1"
+refuses "error: --seed is 64 hexadecimal digits, not 'random'" audit --seed random
+refuses "error: --seed is 64 hexadecimal digits or random, not '00'" serve --seed 00
+refuses "error: the seed comes from --seed or from --seed-file, not from both" sign report --seed-file "'$room/none'" --seed "$ones"
+refuses "error: --seed-file is a file of 64 hexadecimal digits, or of 32 bytes, not '-'" sign report --seed-file -
+refuses "error: --seed-file is a file of 64 hexadecimal digits, or of 32 bytes, not '$room/key-bad'" sign report --seed-file "'$room/key-bad'"
+refuses "error: --n is a number from 4 to 13, not '3'" sign report --seed-file "'$room/none'" --n 3
 refuses "error: unexpected argument '--n' found
 
 Usage: abft simulate [OPTIONS] <SCENARIO
@@ -267,14 +296,22 @@ runs 'a fault to a closed error stream' 2 '' "$report --n 3 2>&-"
 
 # Help and the version.
 runs 'the version' 0 $'abft 0.1.0\n' "'$abft' --version"
+# The options of a cluster, and of its seed: where a cluster runs, --seed may be random.
 cat >"$room/common" <<'EOT'
-      --n <n>              How many replicas there are, 4 to 13 [default: 4]
-      --t <t>              How many may lie, 1 to 4, with 3t+1 <= n [default: 1]
-      --kind <kind>        The application: 1 keys and values, 2 a counter, 3 a purse [default: 1]
-      --w <w>              Bits of a digit of a signature: 4 or 8 [default: 4]
-      --tree <tree>        Height of a signature tree: 5 or 10 [default: 5]
-      --frames <frames>    The version of the frames, 1 or 2; with 2 a batch has up to 64 transactions, not 16 [default: 1]
-      --seed <seed>        The seed of all keys, 64 hexadecimal digits [default: 0000000000000000000000000000000000000000000000000000000000000000]
+      --n <n>                  How many replicas there are, 4 to 13 [default: 4]
+      --t <t>                  How many may lie, 1 to 4, with 3t+1 <= n [default: 1]
+      --kind <kind>            The application: 1 or kvstore, keys and values; 2 or counter; 3 or purse [default: 1]
+      --w <w>                  Bits of a digit of a signature: 4 or 8 [default: 4]
+      --tree <tree>            Height of a signature tree: 5 or 10 [default: 5]
+      --frames <frames>        The version of the frames, 1 or 2; with 2 a batch has up to 64 transactions, not 16 [default: 1]
+EOT
+cat >"$room/seed" <<'EOT'
+      --seed <seed>            The seed of all keys, 64 hexadecimal digits; every user of the machine can read it, by ps [default: 0000000000000000000000000000000000000000000000000000000000000000]
+      --seed-file <seed-file>  The file of the seed, in place of --seed: 64 hexadecimal digits, or 32 bytes
+EOT
+cat >"$room/running-seed" <<'EOT'
+      --seed <seed>            The seed of all keys, 64 hexadecimal digits, which every user of the machine can read, by ps; or random: a new one, shown nowhere [default: 0000000000000000000000000000000000000000000000000000000000000000]
+      --seed-file <seed-file>  The file of the seed, in place of --seed: 64 hexadecimal digits, or 32 bytes
 EOT
 : >"$room/wanted-err"
 cat >"$room/wanted-out" <<'EOT'
@@ -311,13 +348,13 @@ Arguments:
 
 Options:
 EOT
-    cat "$room/common"
+    cat "$room/common" "$room/seed"
     cat <<'EOT'
-      --replica <replica>  Who signs, below n [default: 0]
-      --height <height>    The height, 1 to 4096 [default: 1]
-      --phase <phase>      The phase, 1 to 1000000000 [default: 1]
-      --value <value>      The one transaction of the batch [default: a=1]
-  -h, --help               Print help
+      --replica <replica>      Who signs, below n [default: 0]
+      --height <height>        The height, 1 to 4096 [default: 1]
+      --phase <phase>          The phase, 1 to 1000000000 [default: 1]
+      --value <value>          The one transaction of the batch [default: a=1]
+  -h, --help                   Print help
 
 Output: one frame, as bytes. A report has the batch of --value as its initial and only proper value,
 no flag ALL and no locks; an acknowledgement is on that batch.
@@ -325,7 +362,7 @@ no flag ALL and no locks; an acknowledgement is on that batch.
 Exit status:
   0  the frame was written
   2  a fault of usage
-  3  out of memory, or a failed write
+  3  out of memory, a file that can't be read, or a failed write
 
 Every call reuses leaf 0, which makes the key forgeable. Use this seed only for experiments.
 EOT
@@ -339,13 +376,13 @@ Usage: abft deliver [OPTIONS] <FRAMES
 
 Options:
 EOT
-    cat "$room/common"
+    cat "$room/common" "$room/seed"
     cat <<'EOT'
-      --replica <replica>  Which replica, below n [default: 1]
-      --value <value>      The transaction that it submits [default: a=1]
-      --height <height>    The height that it opens, 1 to 4 [default: 1]
-      --rounds <rounds>    How many rounds it ends, 0 to 4000000000 [default: 1]
-  -h, --help               Print help
+      --replica <replica>      Which replica, below n [default: 1]
+      --value <value>          The transaction that it submits [default: a=1]
+      --height <height>        The height that it opens, 1 to 4 [default: 1]
+      --rounds <rounds>        How many rounds it ends, 0 to 4000000000 [default: 1]
+  -h, --help                   Print help
 
 Lines, one for each frame:
   accepted         the frame was read
@@ -370,9 +407,10 @@ Plays the scenario of standard input on a whole cluster, and prints what its rep
 Usage: abft simulate [OPTIONS] <SCENARIO
 
 Options:
-      --seed <seed>  The seed of all keys, 64 hexadecimal digits [default: 0000000000000000000000000000000000000000000000000000000000000000]
-      --histories    Writes the histories of the correct replicas, as bytes, in place of the lines
-  -h, --help         Print help
+      --seed <seed>            The seed of all keys, 64 hexadecimal digits; every user of the machine can read it, by ps [default: 0000000000000000000000000000000000000000000000000000000000000000]
+      --seed-file <seed-file>  The file of the seed, in place of --seed: 64 hexadecimal digits, or 32 bytes
+      --histories              Writes the histories of the correct replicas, as bytes, in place of the lines
+  -h, --help                   Print help
 
 Input, a scenario: the cluster (n, t and the kind of application), liars if any, and the steps:
   config 4 1 1
@@ -414,14 +452,14 @@ Exit status:
 EOT
 check 'help of simulate' 0 "'$abft' simulate --help"
 cat >"$room/running" <<'EOT'
-      --tx <tx>            The transaction that each pool is given [default: a=1]
-      --rounds <rounds>    How many rounds each replica ends, 0 to 4000000000 [default: 40]
-      --base-ms <base-ms>  Round end R comes this many milliseconds, 1 to 60000, and R more after the one before it [default: 200]
-      --log <log>          What standard error shows, in letters of any case: off, error, warn, info, debug or trace [default: info]
-      --quiet              The same as --log off
-      --stop-at-eof        Stops the cluster, and its listener, when standard input ends
-      --no-empty-blocks    Opens a height only for a transaction that waits, or once another replica has opened it
-      --steady             Lets rounds last as at the start again, each time that all replicas have run another block
+      --tx <tx>                The transaction that each pool is given [default: a=1]
+      --rounds <rounds>        How many rounds each replica ends, 0 to 4000000000 [default: 40]
+      --base-ms <base-ms>      Round end R comes this many milliseconds, 1 to 60000, and R more after the one before it [default: 200]
+      --log <log>              What standard error shows, in letters of any case: off, error, warn, info, debug or trace [default: info]
+      --quiet                  The same as --log off
+      --stop-at-eof            Stops the cluster, and its listener, when standard input ends
+      --no-empty-blocks        Opens a height only for a transaction that waits, or once another replica has opened it
+      --steady                 Lets rounds last as at the start again, each time that all replicas have run another block
 EOT
 {
     cat <<'EOT'
@@ -431,7 +469,7 @@ Usage: abft cluster [OPTIONS]
 
 Options:
 EOT
-    sed -E 's/^(.{27})/\1    /' "$room/common" "$room/running"
+    cat "$room/common" "$room/running-seed" "$room/running"
     cat <<'EOT'
       --histories <histories>  The file to which the histories are written at the end
   -h, --help                   Print help
@@ -450,7 +488,7 @@ Exit status:
   0  the rounds are over, or the cluster was asked to stop, and the audit found a ledger
   1  the audit found a fault
   2  a fault of usage
-  3  out of memory, a thread that can't be made, a file that can't be written, or a failed write
+  3  out of memory, a thread that can't be made, a file that can't be read or written, or a failed write
 EOT
 } >"$room/wanted-out"
 check 'help of cluster' 0 "'$abft' cluster --help"
@@ -463,7 +501,7 @@ Usage: abft serve [OPTIONS]
 
 Options:
 EOT
-    sed -E 's/^(.{27})/\1\n          /; s/ +\n/\n/' "$room/common" "$room/running"
+    sed -E 's/^(.{31})/\1\n          /; s/ +\n/\n/' "$room/common" "$room/running-seed" "$room/running"
     cat <<'EOT'
       --histories <histories>
           The file to which the histories are written at the end
@@ -499,8 +537,8 @@ Exit status:
   0  the rounds are over, or the cluster was asked to stop, and the audit found a ledger
   1  the audit found a fault
   2  a fault of usage
-  3  out of memory, a thread that can't be made, a port that can't be listened at, a file that can't be written,
-     or a failed write
+  3  out of memory, a thread that can't be made, a port that can't be listened at, a file that can't be read or
+     written, or a failed write
 EOT
 } >"$room/wanted-out"
 check 'help of serve' 0 "'$abft' serve --help"
@@ -512,10 +550,10 @@ Usage: abft audit [OPTIONS] <HISTORIES
 
 Options:
 EOT
-    cat "$room/common"
+    cat "$room/common" "$room/seed"
     cat <<'EOT'
-      --receipt <receipt>  A receipt to look for, R:I:TX: the replica, the index in its history, and the transaction
-  -h, --help               Print help
+      --receipt <receipt>      A receipt to look for, R:I:TX: the replica, the index in its history, and the transaction
+  -h, --help                   Print help
 
 Input: the histories of N-t replicas or more, as bytes, one after another. 'simulate --histories' prints such bytes,
 and 'cluster --histories FILE' writes them. The options are those of the cluster.
@@ -552,12 +590,12 @@ Usage: abft draw [OPTIONS] <HISTORIES >PICTURE.svg
 
 Options:
 EOT
-    sed -E 's/^(.{25})  /\1/' "$room/common"
+    cat "$room/common" "$room/seed"
     cat <<'EOT'
-      --height <height>  The one height to draw, 1 to 4096; 0 for all heights [default: 0]
-      --first <first>    The first round to draw, 0 to 4000000000; 0 is the time before round 1 [default: 0]
-      --last <last>      The last round to draw, 0 to 4000000000 [default: 64]
-  -h, --help             Print help
+      --height <height>        The one height to draw, 1 to 4096; 0 for all heights [default: 0]
+      --first <first>          The first round to draw, 0 to 4000000000; 0 is the time before round 1 [default: 0]
+      --last <last>            The last round to draw, 0 to 4000000000 [default: 64]
+  -h, --help                   Print help
 
 Input: the histories of replicas, as bytes, one after another. 'simulate --histories' prints such bytes, and
 'cluster --histories FILE' writes them. The options are those of the cluster: histories of version 2 need --frames 2.
@@ -692,6 +730,7 @@ stopped terminal: status 0
 terminal kinds: xterm erased, dumb lines, none lines
 terminal warnings: mute 0 1 2 3; status 0
 background: status 0
+ctrl-d: runs; 4 lines, status 0
 zeros: rests
 ' "tests/live_limits.py '$abft'"
 exec 4>&-

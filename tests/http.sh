@@ -107,13 +107,14 @@ ends
 runs 'all replicas got a broadcast' 0 $'replicas: 0 1 2 3\n' "$ask submits '$room/histories' b=2"
 runs 'the counts are those of the histories' 0 $'frames accepted and ignored: some\n' "$ask counts '$room/scraped' '$room/histories'"
 runs 'the end of the input ends it' 0 $'0\nledger\n' "echo $ended; sed -n 's/^\\(ledger\\) .*/\\1/p' '$room/served'"
-runs 'it tells nothing but its ports and its end' 0 $'listening\nhttp\ncommits\ncommits\ncommits\ncommits\nledger\n' \
+runs 'it tells nothing but its ports, its end, and that everybody knows its seed' 0 \
+    $'listening\nhttp\ncommits\ncommits\ncommits\ncommits\nledger\nthe seed is the default one, which everybody knows: anybody can forge\n' \
     "sed '/^[0-9]/d; s/ .*//' '$room/served'; cat '$room/faults'"
 
 # Rounds that are over: HTTP alone keeps nothing up.
 mkfifo "$room/input"
 runs 'no session is waited for but those of the binary protocol' 0 $'http\ncommits\ncommits\ncommits\ncommits\nledger\n' \
-    "(exec 8<>'$room/input'; '$abft' serve --http 0 --base-ms 20 --rounds 8 --sessions 1 --quiet >'$room/served' & sleep 3
+    "(exec 8<>'$room/input'; '$abft' serve --http 0 --base-ms 20 --rounds 8 --sessions 1 --quiet >'$room/served' 2>'$room/faults' & sleep 3
     python3 -c 'import socket, sys; socket.create_connection((\"127.0.0.1\", int(sys.argv[1]))).close()' \$(sed -n 's/^listening //p' '$room/served'); wait)
     sed '1d; /^[0-9]/d; s/ .*//' '$room/served'"
 runs 'a port that is taken' 0 $'3 \n' "python3 -c 'if 1:

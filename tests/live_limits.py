@@ -397,6 +397,25 @@ def zeros():
     return "rests" if count < 1 << 20 else f"read {count} bytes in a second"
 
 
+def control_d():
+    """Standard input is a terminal: Ctrl-D ends the run, which prints its lines."""
+    master, terminal = pty.openpty()
+    cluster = subprocess.Popen([ABFT, "cluster", "--rounds", "4000000000", "--quiet"], stdin=terminal, stdout=subprocess.PIPE,
+                               stderr=subprocess.DEVNULL)
+    time.sleep(1)
+    told = "ended early" if cluster.poll() is not None else "runs"
+    os.write(master, b"\x04")
+    try:
+        lines = cluster.communicate(timeout=20)[0].splitlines()
+        told += f"; {len([line for line in lines if line.startswith(b'commits ')])} lines, status {cluster.returncode}"
+    except subprocess.TimeoutExpired:
+        cluster.kill()
+        told += "; doesn't end"
+    os.close(terminal)
+    os.close(master)
+    return told
+
+
 SCENARIOS = {
     "entries": entries,
     "asked": asked,
@@ -418,6 +437,7 @@ SCENARIOS = {
     "terminal kinds": terminal_kinds,
     "terminal warnings": terminal_warnings,
     "background": background,
+    "ctrl-d": control_d,
     "zeros": zeros,
 }
 

@@ -3,7 +3,7 @@ use Rattle.ledger_model.specs.declared.config.AppKinds.{AppKinds}
 use Rattle.ledger_model.specs.declared.config.AppKinds.TheVariants.{Three, OwnAlone}
 use Rattle.app_states.specs.ProgramWords.{ProgramWords}
 use Rattle.ledger_model.specs.Meanings.{Meanings}
-use Rattle.std.proofs.Common.{◌≡◌, ◌∙◌, true, false, List, refl, sym, ap, subst, codes, inl, inr}
+use Rattle.std.proofs.Common.{◌≡◌, ◌∙◌, ℕ, true, false, List, refl, sym, ap, subst, codes, inl, inr}
 use Rattle.std.specs.Prelude.{◌⊎◌, Option, Some, None, Result, Ok, Err, IfOk, IfErr, OnErr, IsOkAnd, MatchResult, option_map}
 use Rattle.std.specs.Prelude.{◌↔◌, Bool, IsTrue, not, option_and_then, find}
 use Rattle.std.specs.Str.{bytes_eq}
@@ -82,62 +82,62 @@ IsOneOfSeven name =
     ⊎ ((name ≡ Some (codes "cluster")) ⊎ ((name ≡ Some (codes "serve")) ⊎ ((name ≡ Some (codes "audit")) ⊎ (name ≡ Some (codes "draw")))))))
 
 -- whatever is set is set by a subcommand of one of these names
-named : (kinds : AppKinds) (meaning : Meanings) (o : Option (Text × List Row)) (s : Settings) → Sets kinds meaning o s → IsOneOfSeven (option_map (λ p. p.0) o)
-named kinds meaning None s sets = absurd sets
-named kinds meaning (Some p) (settings.Sign t) sets = inl (ap (λ n. Some n) sets.0)
-named kinds meaning (Some p) (settings.Deliver t) sets = inr (inl (ap (λ n. Some n) sets.0))
-named kinds meaning (Some p) (settings.Simulate t) sets = inr (inr (inl (ap (λ n. Some n) sets.0)))
-named kinds meaning (Some p) (settings.Cluster t) sets = inr (inr (inr (inl (ap (λ n. Some n) sets.0))))
-named kinds meaning (Some p) (settings.Serve t) sets = inr (inr (inr (inr (inl (ap (λ n. Some n) sets.0)))))
-named kinds meaning (Some p) (settings.Audit t) sets = inr (inr (inr (inr (inr (inl (ap (λ n. Some n) sets.0))))))
-named kinds meaning (Some p) (settings.Draw t) sets = inr (inr (inr (inr (inr (inr (ap (λ n. Some n) sets.0))))))
+named : (kinds : AppKinds) (meaning : Meanings) (given : Option (List ℕ)) (o : Option (Text × List Row)) (s : Settings) → Sets kinds meaning given o s → IsOneOfSeven (option_map (λ p. p.0) o)
+named kinds meaning given None s sets = absurd sets
+named kinds meaning given (Some p) (settings.Sign t) sets = inl (ap (λ n. Some n) sets.0)
+named kinds meaning given (Some p) (settings.Deliver t) sets = inr (inl (ap (λ n. Some n) sets.0))
+named kinds meaning given (Some p) (settings.Simulate t) sets = inr (inr (inl (ap (λ n. Some n) sets.0)))
+named kinds meaning given (Some p) (settings.Cluster t) sets = inr (inr (inr (inl (ap (λ n. Some n) sets.0))))
+named kinds meaning given (Some p) (settings.Serve t) sets = inr (inr (inr (inr (inl (ap (λ n. Some n) sets.0)))))
+named kinds meaning given (Some p) (settings.Audit t) sets = inr (inr (inr (inr (inr (inl (ap (λ n. Some n) sets.0))))))
+named kinds meaning given (Some p) (settings.Draw t) sets = inr (inr (inr (inr (inr (inr (ap (λ n. Some n) sets.0))))))
 
-pub names_one : (kinds : AppKinds) (meaning : Meanings) (m : ArgMatches) (s : Settings) → Sets kinds meaning (subcommand_rows_of m) s
+pub names_one : (kinds : AppKinds) (meaning : Meanings) (given : Option (List ℕ)) (m : ArgMatches) (s : Settings) → Sets kinds meaning given (subcommand_rows_of m) s
     → IsOneOfSeven (subcommand_name_of m)
-names_one kinds meaning m s sets = subst IsOneOfSeven (name_is m) (named kinds meaning (subcommand_rows_of m) s sets)
+names_one kinds meaning given m s sets = subst IsOneOfSeven (name_is m) (named kinds meaning given (subcommand_rows_of m) s sets)
 
 -- names that differ are not the same
-differ : {W : Type 0} (x y : Text) → bytes_eq x y ≡ false → x ≡ y → W
+pub differ : {W : Type 0} (x y : Text) → bytes_eq x y ≡ false → x ≡ y → W
 differ x y are same = absurd (not_from_Decides (bytes_eq x y) (bytes_eq-Decides x y) are same)
 
 -- what is set by a subcommand of each name
-pub sets_sign : (kinds : AppKinds) (meaning : Meanings) → {W : Type 0} (rows : List Row) (s : Settings) → ((t : SignSettings) → SetsSign kinds rows t → W)
-    → Sets kinds meaning (Some (codes "sign", rows)) s → W
-sets_sign kinds meaning rows (settings.Sign t) then sets = then t sets.1
-sets_sign kinds meaning rows s then sets = differ _ _ refl sets.0
+pub sets_sign : (kinds : AppKinds) (meaning : Meanings) (given : Option (List ℕ)) → {W : Type 0} (rows : List Row) (s : Settings) → ((t : SignSettings) → SetsSign kinds given rows t → W)
+    → Sets kinds meaning given (Some (codes "sign", rows)) s → W
+sets_sign kinds meaning given rows (settings.Sign t) then sets = then t sets.1
+sets_sign kinds meaning given rows s then sets = differ _ _ refl sets.0
 
-pub sets_deliver : (kinds : AppKinds) (meaning : Meanings) → {W : Type 0} (rows : List Row) (s : Settings)
-    → ((t : DeliverSettings) → SetsDeliver kinds meaning rows t → W)
-    → Sets kinds meaning (Some (codes "deliver", rows)) s → W
-sets_deliver kinds meaning rows (settings.Deliver t) then sets = then t sets.1
-sets_deliver kinds meaning rows s then sets = differ _ _ refl sets.0
+pub sets_deliver : (kinds : AppKinds) (meaning : Meanings) (given : Option (List ℕ)) → {W : Type 0} (rows : List Row) (s : Settings)
+    → ((t : DeliverSettings) → SetsDeliver kinds meaning given rows t → W)
+    → Sets kinds meaning given (Some (codes "deliver", rows)) s → W
+sets_deliver kinds meaning given rows (settings.Deliver t) then sets = then t sets.1
+sets_deliver kinds meaning given rows s then sets = differ _ _ refl sets.0
 
-pub sets_simulate : (kinds : AppKinds) (meaning : Meanings) → {W : Type 0} (rows : List Row) (s : Settings)
-    → ((t : SimulateSettings) → SetsSimulate rows t → W)
-    → Sets kinds meaning (Some (codes "simulate", rows)) s → W
-sets_simulate kinds meaning rows (settings.Simulate t) then sets = then t sets.1
-sets_simulate kinds meaning rows s then sets = differ _ _ refl sets.0
+pub sets_simulate : (kinds : AppKinds) (meaning : Meanings) (given : Option (List ℕ)) → {W : Type 0} (rows : List Row) (s : Settings)
+    → ((t : SimulateSettings) → SetsSimulate given rows t → W)
+    → Sets kinds meaning given (Some (codes "simulate", rows)) s → W
+sets_simulate kinds meaning given rows (settings.Simulate t) then sets = then t sets.1
+sets_simulate kinds meaning given rows s then sets = differ _ _ refl sets.0
 
-pub sets_cluster : (kinds : AppKinds) (meaning : Meanings) → {W : Type 0} (rows : List Row) (s : Settings)
-    → ((t : ClusterSettings) → SetsRunning kinds meaning rows t → W)
-    → Sets kinds meaning (Some (codes "cluster", rows)) s → W
-sets_cluster kinds meaning rows (settings.Cluster t) then sets = then t sets.1
-sets_cluster kinds meaning rows s then sets = differ _ _ refl sets.0
+pub sets_cluster : (kinds : AppKinds) (meaning : Meanings) (given : Option (List ℕ)) → {W : Type 0} (rows : List Row) (s : Settings)
+    → ((t : ClusterSettings) → SetsRunning kinds meaning given rows t → W)
+    → Sets kinds meaning given (Some (codes "cluster", rows)) s → W
+sets_cluster kinds meaning given rows (settings.Cluster t) then sets = then t sets.1
+sets_cluster kinds meaning given rows s then sets = differ _ _ refl sets.0
 
-pub sets_serve : (kinds : AppKinds) (meaning : Meanings) → {W : Type 0} (rows : List Row) (s : Settings) → ((t : ServeSettings) → SetsServe kinds meaning rows t → W)
-    → Sets kinds meaning (Some (codes "serve", rows)) s → W
-sets_serve kinds meaning rows (settings.Serve t) then sets = then t sets.1
-sets_serve kinds meaning rows s then sets = differ _ _ refl sets.0
+pub sets_serve : (kinds : AppKinds) (meaning : Meanings) (given : Option (List ℕ)) → {W : Type 0} (rows : List Row) (s : Settings) → ((t : ServeSettings) → SetsServe kinds meaning given rows t → W)
+    → Sets kinds meaning given (Some (codes "serve", rows)) s → W
+sets_serve kinds meaning given rows (settings.Serve t) then sets = then t sets.1
+sets_serve kinds meaning given rows s then sets = differ _ _ refl sets.0
 
-pub sets_audit : (kinds : AppKinds) (meaning : Meanings) → {W : Type 0} (rows : List Row) (s : Settings) → ((t : AuditSettings) → SetsAudit kinds rows t → W)
-    → Sets kinds meaning (Some (codes "audit", rows)) s → W
-sets_audit kinds meaning rows (settings.Audit t) then sets = then t sets.1
-sets_audit kinds meaning rows s then sets = differ _ _ refl sets.0
+pub sets_audit : (kinds : AppKinds) (meaning : Meanings) (given : Option (List ℕ)) → {W : Type 0} (rows : List Row) (s : Settings) → ((t : AuditSettings) → SetsAudit kinds given rows t → W)
+    → Sets kinds meaning given (Some (codes "audit", rows)) s → W
+sets_audit kinds meaning given rows (settings.Audit t) then sets = then t sets.1
+sets_audit kinds meaning given rows s then sets = differ _ _ refl sets.0
 
-pub sets_draw : (kinds : AppKinds) (meaning : Meanings) → {W : Type 0} (rows : List Row) (s : Settings) → ((t : DrawSettings) → SetsDraw kinds rows t → W)
-    → Sets kinds meaning (Some (codes "draw", rows)) s → W
-sets_draw kinds meaning rows (settings.Draw t) then sets = then t sets.1
-sets_draw kinds meaning rows s then sets = differ _ _ refl sets.0
+pub sets_draw : (kinds : AppKinds) (meaning : Meanings) (given : Option (List ℕ)) → {W : Type 0} (rows : List Row) (s : Settings) → ((t : DrawSettings) → SetsDraw kinds given rows t → W)
+    → Sets kinds meaning given (Some (codes "draw", rows)) s → W
+sets_draw kinds meaning given rows (settings.Draw t) then sets = then t sets.1
+sets_draw kinds meaning given rows s then sets = differ _ _ refl sets.0
 
 -- where an option's value came from, among the entries and among the rows
 pub source_is : (f : Found) (id : Text)
@@ -157,29 +157,29 @@ not_so true P told = (λ bad. absurd cc, λ other. absurd (other (told.0 refl)))
 not_so false P told = (λ _ holds. let bad = told.1 holds in absurd cc, λ _. refl)
 
 -- settings that are set are set as those of the subcommand
-pub set_alike : (kinds : AppKinds) (meaning : Meanings) → {T : Type 0} (Q : T → Settings → Type 0) (S : T → Type 0) (o : Option (Text × List Row))
+pub set_alike : (kinds : AppKinds) (meaning : Meanings) (given : Option (List ℕ)) → {T : Type 0} (Q : T → Settings → Type 0) (S : T → Type 0) (o : Option (Text × List Row))
     (p : Text × List Row)
     (r : Result T UsageFault) (told : Result Settings UsageFault) → o ≡ Some p
-    → ((t : T) (s : Settings) → Q t s → S t → Sets kinds meaning (Some p) s)
+    → ((t : T) (s : Settings) → Q t s → S t → Sets kinds meaning given (Some p) s)
     → IfOk r S → MatchResult r (λ t. IsOkAnd told (Q t)) (λ e. told ≡ Err e)
-    → IfOk told (λ s. Sets kinds meaning o s)
-set_alike kinds meaning Q S o p (Ok t) (Ok s) found join set cases = subst (λ q. Sets kinds meaning q s) (sym found) (join t s cases set)
-set_alike kinds meaning Q S o p (Ok t) (Err e) found join set cases = absurd cases
-set_alike kinds meaning Q S o p (Err e) told found join set cases = subst (λ (x : Result Settings UsageFault). IfOk x (λ s. Sets kinds meaning o s))
+    → IfOk told (λ s. Sets kinds meaning given o s)
+set_alike kinds meaning given Q S o p (Ok t) (Ok s) found join set cases = subst (λ q. Sets kinds meaning given q s) (sym found) (join t s cases set)
+set_alike kinds meaning given Q S o p (Ok t) (Err e) found join set cases = absurd cases
+set_alike kinds meaning given Q S o p (Err e) told found join set cases = subst (λ (x : Result Settings UsageFault). IfOk x (λ s. Sets kinds meaning given o s))
     (sym cases) tt
 
 -- settings that are refused are refused as those of the subcommand
-pub refused_alike : (kinds : AppKinds) (meaning : Meanings) → {T : Type 0} (Q : T → Settings → Type 0) (S : T → Type 0) (o : Option (Text × List Row))
+pub refused_alike : (kinds : AppKinds) (meaning : Meanings) (given : Option (List ℕ)) → {T : Type 0} (Q : T → Settings → Type 0) (S : T → Type 0) (o : Option (Text × List Row))
     (p : Text × List Row)
     (r : Result T UsageFault) (told : Result Settings UsageFault) → o ≡ Some p
-    → ((e : UsageFault) (s : Settings) → ((t : T) → S t → WantsMemory e) → Sets kinds meaning (Some p) s → WantsMemory e)
+    → ((e : UsageFault) (s : Settings) → ((t : T) → S t → WantsMemory e) → Sets kinds meaning given (Some p) s → WantsMemory e)
     → IfErr r (λ e. (t : T) → S t → WantsMemory e) → MatchResult r (λ t. IsOkAnd told (Q t)) (λ e. told ≡ Err e)
-    → IfErr told (λ e. (s : Settings) → Sets kinds meaning o s → WantsMemory e)
-refused_alike kinds meaning Q S o p (Ok t) (Ok s) found split refused cases = tt
-refused_alike kinds meaning Q S o p (Ok t) (Err e) found split refused cases = absurd cases
-refused_alike kinds meaning Q S o p (Err e) told found split refused cases =
-    subst (λ (x : Result Settings UsageFault). IfErr x (λ f. (s : Settings) → Sets kinds meaning o s → WantsMemory f)) (sym cases)
-    (λ s sets. split e s refused (subst (λ q. Sets kinds meaning q s) found sets))
+    → IfErr told (λ e. (s : Settings) → Sets kinds meaning given o s → WantsMemory e)
+refused_alike kinds meaning given Q S o p (Ok t) (Ok s) found split refused cases = tt
+refused_alike kinds meaning given Q S o p (Ok t) (Err e) found split refused cases = absurd cases
+refused_alike kinds meaning given Q S o p (Err e) told found split refused cases =
+    subst (λ (x : Result Settings UsageFault). IfErr x (λ f. (s : Settings) → Sets kinds meaning given o s → WantsMemory f)) (sym cases)
+    (λ s sets. split e s refused (subst (λ q. Sets kinds meaning given q s) found sets))
 
 -- what nothing sets is refused for whatever reason
 pub refused_anyway : {T E : Type 0} (S : T → Type 0) (P : E → Type 0) (r : Result T E) → OnErr r ((t : T) → S t → ⊥)

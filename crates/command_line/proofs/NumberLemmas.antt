@@ -1,6 +1,4 @@
 -- Numbers and transactions in their printed form.
-use Rattle.ledger_model.specs.declared.config.AppKinds.{AppKinds}
-use Rattle.ledger_model.specs.declared.config.AppKinds.TheVariants.{Three, OwnAlone}
 use Rattle.ledger_model.specs.Meanings.{Meanings}
 use Rattle.std.proofs.Common.{◌≡◌, ◌∙◌, ℕ, ◌-◌, ◌<◌, ◌≤◌, Bool, true, false, cond, List, [], refl, arith, ap, codes, sym, subst}
 use Rattle.std.specs.Prelude.{Result, Ok, Err, Some, None, IfOk, IfErr, OnErr, IsErrOf, is_ok, ◌↔◌, ◌==◌}
@@ -20,11 +18,9 @@ use Rattle.lm_ots.specs.declared.params.Width.{Width}
 use Rattle.lm_ots.specs.declared.params.Width.TheVariants.{W4, W8}
 use Rattle.lm_ots.specs.declared.params.TreeHeight.{TreeHeight}
 use Rattle.lm_ots.specs.declared.params.TreeHeight.TheVariants.{H5, H10}
-use Rattle.cluster_setup.specs.declared.cluster_seed.ClusterSeed.{ClusterSeed}
 use Rattle.abci.specs.Meaning.{ChecksTo, state_after}
 use Rattle.ledger_model.specs.Numbers.{kind_of_number}
-use Rattle.ledger_model.proofs.Numbers.{one_kind}
-use Rattle.command_line.specs.Options.{IsNumberWithin, IsWritten, SetsCluster}
+use Rattle.command_line.specs.Options.{IsNumberWithin, IsWritten}
 use Rattle.plain_text.specs.Transactions.{StandsFor}
 use Rattle.plain_text.proofs.TransactionLemmas.{stands_once}
 
@@ -96,12 +92,6 @@ pub one_transaction : (rows : List Row) (name : Text) (tx tx2 : List ℕ) → Is
 one_transaction rows name tx tx2 i j =
     let same : i.text ≡ j.text = same_Some i.text j.text (sym i.has ∙ j.has) in
     stands_once j.text tx tx2 (subst (λ t. StandsFor t tx) same i.bytes) j.bytes
-
--- the same options name one application
-pub same_kind : (kinds : AppKinds) (rows : List Row) (a b : ClusterSeed) → SetsCluster kinds rows a → SetsCluster kinds rows b
-    → a.config.kind ≡ b.config.kind
-same_kind Three rows a b i j = one_kind a.config.kind b.config.kind (one_number rows (codes "kind") 1 3 1 3 _ _ i.kind j.kind)
-same_kind OwnAlone rows a b i j = i.kind ∙ sym j.kind
 
 -- a check in the opening state answers as the application run on no block
 pub checked_at_opening : (meaning : Meanings) (m : Machine) (kind : AppKind) (tx : List ℕ) (code : ℕ) → ChecksTo meaning m tx code

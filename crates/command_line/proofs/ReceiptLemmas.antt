@@ -44,11 +44,11 @@ set_spelled rows text (Some receipt) has (t, (first, spells)) =
     (receipt, subst (λ w. SpellsReceipt w receipt) (same_Some t text (sym first ∙ has)) spells)
 
 -- what is said of a value that spells no receipt is right
-pub receipt_right : (kinds : AppKinds) (meaning : Meanings) (table : OptionTable) (rows : List Row) (word : Bor (List ℕ)) (e : UsageFault)
+pub receipt_right : (kinds : AppKinds) (meaning : Meanings) (given : Option (List ℕ)) (table : OptionTable) (rows : List Row) (word : Bor (List ℕ)) (e : UsageFault)
     → HasOption kinds table (codes "receipt")
     → first_of (codes "receipt") rows ≡ Some word.now
     → ((r : Receipt) → SpellsReceipt word.now r → WantsMemory e) → (e ≡ fault.NoMemory) ⊎ (e ≡ fault.Receipt word)
-    → IsRightOf kinds meaning table rows e
-receipt_right kinds meaning table rows word e has first none (inl memory) = subst (IsRightOf kinds meaning table rows) (sym memory) tt
-receipt_right kinds meaning table rows word e has first none (inr told) =
-    subst (IsRightOf kinds meaning table rows) (sym told) (has, (first, λ r spells. subst WantsMemory told (none r spells)))
+    → IsRightOf kinds meaning given table rows e
+receipt_right kinds meaning given table rows word e has first none (inl memory) = subst (IsRightOf kinds meaning given table rows) (sym memory) tt
+receipt_right kinds meaning given table rows word e has first none (inr told) =
+    subst (IsRightOf kinds meaning given table rows) (sym told) (has, (first, λ r spells. subst WantsMemory told (none r spells)))

@@ -4,31 +4,38 @@ use Rattle.std.proofs.Common.{ℕ, ◌-◌, List, ◌++◌, ◌∷◌, ap, codes
 use Rattle.clap.specs.Words.{Row, Text}
 use Rattle.command_line.specs.Options.{HasCluster, HasOption, HasRunning, IsNumberWithin, Limits, OptionTable, TakesNumber, cluster_names, is_three}
 use Rattle.command_line.specs.Options.{cluster_numbers, running_options}
+use Rattle.command_line.specs.declared.seed_words.SeedWords.{SeedWords}
+use Rattle.command_line.specs.declared.seed_words.SeedWords.TheVariants.{DigitsOrRandom}
 
-pub has_cluster : (kinds : AppKinds) (numbers : List Limits) (transactions names : List Text)
-    → HasCluster kinds (record { numbers = cluster_numbers ++ numbers; transactions = transactions; names = cluster_names ++ names })
-has_cluster kinds numbers transactions names =
+pub has_cluster : (kinds : AppKinds) (taken : SeedWords) (numbers : List Limits) (transactions names : List Text)
+    → HasCluster kinds taken (record {
+      numbers = cluster_numbers ++ numbers;
+      transactions = transactions;
+      seed_words = taken;
+      names = cluster_names ++ names;
+    })
+has_cluster kinds taken numbers transactions names =
     record {
       n = refl;
       n_limits = refl;
       t = refl;
       t_limits = refl;
       kind = λ three. ap is_three three;
-      kind_limits = refl;
       w = refl;
       tree = refl;
       frames = refl;
       frames_limits = refl;
-      seed = refl;
+      seed = record { seed = refl; file = refl; words = refl };
     }
 
 pub has_running : (kinds : AppKinds) (numbers : List Limits) (transactions names : List Text) → HasRunning kinds (record {
   numbers = running_options.numbers ++ numbers;
   transactions = codes "tx" ∷ transactions;
+  seed_words = DigitsOrRandom;
   names = running_options.names ++ names;
 })
 has_running kinds numbers transactions names = record {
-  cluster = has_cluster kinds _ _ _;
+  cluster = has_cluster kinds _ _ _ _;
   tx = (refl, refl);
   rounds = refl;
   rounds_limits = refl;

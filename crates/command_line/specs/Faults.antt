@@ -6,6 +6,7 @@ use Rattle.clap.specs.Words.{HasKind, IsAmong, Kinds, Row, Text, fault_of, first
 use Rattle.clap.specs.declared.error.ErrorKind.TheVariants as kind
 use Rattle.ledger_model.specs.declared.config.AppKind.{AppKind}
 use Rattle.ledger_model.specs.declared.config.AppKinds.{AppKinds}
+use Rattle.ledger_model.specs.declared.config.AppKinds.TheVariants.{Three}
 use Rattle.ledger_model.specs.Replies.{check_reply}
 use Rattle.log.specs.Level.{parse_filter}
 use Rattle.plain_text.specs.Transactions.{Misspells, StandsFor}
@@ -14,8 +15,9 @@ use Rattle.cluster_setup.specs.declared.sign_settings.What.{What}
 use Rattle.cluster_setup.specs.declared.audit_settings.Receipt.{Receipt}
 use Rattle.command_line.specs.Grammar.{abft_app}
 use Rattle.command_line.specs.Receipts.{SpellsReceipt}
-use Rattle.command_line.specs.Options.{HasOption, IsNumberWithin, IsSeed, IsWritten, OptionTable, SetsKind, TakesEither, TakesNumber, TakesTransaction}
+use Rattle.command_line.specs.Options.{HasOption, IsNumberWithin, IsNamed, IsWordSeed, IsWritten, OptionTable, SetsKind, TakesEither, TakesNumber, TakesTransaction}
 use Rattle.command_line.specs.Options.{options_of, word_of}
+use Rattle.command_line.specs.declared.seed_words.SeedWords.{SeedWords}
 use Rattle.command_line.specs.declared.usage_fault.Input.{Input}
 use Rattle.command_line.specs.declared.usage_fault.Input.TheVariants.{Frames, Scenario, AuditedHistories, DrawnHistories}
 use Rattle.command_line.specs.declared.usage_fault.UsageFault.{UsageFault}
@@ -65,9 +67,22 @@ abbrev pub IsNeither : List Row → Text → ℕ → ℕ → Text → Type 0
 IsNeither rows option one other word =
     (first_of option rows ≡ Some word) × ((IsNumberWithin rows option one other one → ⊥) × (IsNumberWithin rows option one other other → ⊥))
 
--- the word is the value of `--seed`, but not 64 hexadecimal digits
-abbrev pub IsNoSeed : List Row → Text → Type 0
-IsNoSeed rows word = (first_of (codes "seed") rows ≡ Some word) × ((seed : List ℕ) → IsSeed rows seed → ⊥)
+-- the word is the value of `--kind`, but neither the number of one of the three applications nor its name
+abbrev pub IsNoKind : List Row → Text → Type 0
+IsNoKind rows word = (first_of (codes "kind") rows ≡ Some word) × ((kind : AppKind) → SetsKind Three rows kind → ⊥)
+
+-- the word is the value of `--seed`, but not 64 hexadecimal digits, nor `random` where a seed is drawn for that
+abbrev pub IsNoSeed : SeedWords → Option (List ℕ) → List Row → Text → Type 0
+IsNoSeed taken given rows word =
+    (first_of (codes "seed-file") rows ≡ None) × ((first_of (codes "seed") rows ≡ Some word) × ((seed : List ℕ) → IsWordSeed taken given rows seed → ⊥))
+
+-- the words name this file for the seed, but it is `-`, or no seed was read from it
+abbrev pub IsNoSeedFile : Option (List ℕ) → List Row → Text → Type 0
+IsNoSeedFile given rows file = (first_of (codes "seed-file") rows ≡ Some file) × ((file ≡ codes "-") ⊎ (given ≡ None))
+
+-- the words contain `--seed` and `--seed-file`
+abbrev pub AreTwoSeeds : List Row → Type 0
+AreTwoSeeds rows = IsNamed rows (codes "seed") × ((file : Text) × (first_of (codes "seed-file") rows ≡ Some file))
 
 -- the options give these numbers of replicas and faults, and there are too few replicas
 pub record AreTooFew (rows : List Row) (replicas faults : ℕ) : Type 0 where
@@ -112,26 +127,30 @@ abbrev pub IsNoLevel : List Row → Text → Type 0
 IsNoLevel rows word = (first_of (codes "log") rows ≡ Some word) × (parse_filter word ≡ None)
 
 -- the fault names an option of the table and of these rows, the numbers that it takes, and what is wrong with it
-abbrev pub IsRightOf : AppKinds → Meanings → OptionTable → List Row → UsageFault → Type 0
-IsRightOf kinds meaning table rows (fault.CommandLine error) = ⊥
-IsRightOf kinds meaning table rows (fault.Number option least most word) =
+abbrev pub IsRightOf : AppKinds → Meanings → Option (List ℕ) → OptionTable → List Row → UsageFault → Type 0
+IsRightOf kinds meaning given table rows (fault.CommandLine error) = ⊥
+IsRightOf kinds meaning given table rows (fault.Number option least most word) =
     TakesNumber kinds table rows option.now least most × IsNoNumber rows option.now least most word.now
-IsRightOf kinds meaning table rows (fault.Neither option one other word) =
+IsRightOf kinds meaning given table rows (fault.Neither option one other word) =
     TakesEither kinds table option.now one other × IsNeither rows option.now one other word.now
-IsRightOf kinds meaning table rows (fault.Seed word) = HasOption kinds table (codes "seed") × IsNoSeed rows word.now
-IsRightOf kinds meaning table rows (fault.TooFew replicas faults) = AreTooFew rows replicas faults
-IsRightOf kinds meaning table rows (fault.Spelling option why) = TakesTransaction kinds table option.now × IsMisspelled rows option.now why
-IsRightOf kinds meaning table rows (fault.NoTransaction option word) = TakesTransaction kinds table option.now
+IsRightOf kinds meaning given table rows (fault.Kind word) = HasOption kinds table (codes "kind") × IsNoKind rows word.now
+IsRightOf kinds meaning given table rows (fault.Seed taken word) = HasOption kinds table (codes "seed") × ((table.seed_words ≡ taken)
+    × IsNoSeed taken given rows word.now)
+IsRightOf kinds meaning given table rows (fault.SeedFile file) = HasOption kinds table (codes "seed-file") × IsNoSeedFile given rows file.now
+IsRightOf kinds meaning given table rows fault.TwoSeeds = HasOption kinds table (codes "seed") × (HasOption kinds table (codes "seed-file") × AreTwoSeeds rows)
+IsRightOf kinds meaning given table rows (fault.TooFew replicas faults) = AreTooFew rows replicas faults
+IsRightOf kinds meaning given table rows (fault.Spelling option why) = TakesTransaction kinds table option.now × IsMisspelled rows option.now why
+IsRightOf kinds meaning given table rows (fault.NoTransaction option word) = TakesTransaction kinds table option.now
     × IsNoTransaction rows option.now word.now
-IsRightOf kinds meaning table rows (fault.Rejected option code word) = TakesTransaction kinds table option.now
+IsRightOf kinds meaning given table rows (fault.Rejected option code word) = TakesTransaction kinds table option.now
     × IsRejected kinds meaning rows option.now code word.now
-IsRightOf kinds meaning table rows (fault.Receipt word) = HasOption kinds table (codes "receipt") × IsNoReceipt rows word.now
-IsRightOf kinds meaning table rows (fault.NamedInput name input word) = ⊥
-IsRightOf kinds meaning table rows (fault.What word) = HasOption kinds table (codes "what") × IsNoStatement rows word.now
-IsRightOf kinds meaning table rows (fault.Level word) = HasOption kinds table (codes "log") × IsNoLevel rows word.now
-IsRightOf kinds meaning table rows (fault.Missing option) = HasOption kinds table option.now × (first_of option.now rows ≡ None)
-IsRightOf kinds meaning table rows fault.NoSubcommand = ⊥
-IsRightOf kinds meaning table rows fault.NoMemory = ⊤
+IsRightOf kinds meaning given table rows (fault.Receipt word) = HasOption kinds table (codes "receipt") × IsNoReceipt rows word.now
+IsRightOf kinds meaning given table rows (fault.NamedInput name input word) = ⊥
+IsRightOf kinds meaning given table rows (fault.What word) = HasOption kinds table (codes "what") × IsNoStatement rows word.now
+IsRightOf kinds meaning given table rows (fault.Level word) = HasOption kinds table (codes "log") × IsNoLevel rows word.now
+IsRightOf kinds meaning given table rows (fault.Missing option) = HasOption kinds table option.now × (first_of option.now rows ≡ None)
+IsRightOf kinds meaning given table rows fault.NoSubcommand = ⊥
+IsRightOf kinds meaning given table rows fault.NoMemory = ⊤
 
 -- no subcommand of the program was found
 abbrev pub IsNoSubcommand : Option (Text × List Row) → Type 0
@@ -152,30 +171,33 @@ rows_in None = []
 rows_in (Some found) = found.1
 
 -- the fault names an option of the subcommand that was found, or says that none was found
-abbrev pub IsRightIn : AppKinds → Meanings → Option (Text × List Row) → UsageFault → Type 0
-IsRightIn kinds meaning found fault.NoSubcommand = IsNoSubcommand found
-IsRightIn kinds meaning found e = IsRightOf kinds meaning (table_in found) (rows_in found) e
+abbrev pub IsRightIn : AppKinds → Meanings → Option (List ℕ) → Option (Text × List Row) → UsageFault → Type 0
+IsRightIn kinds meaning given found fault.NoSubcommand = IsNoSubcommand found
+IsRightIn kinds meaning given found e = IsRightOf kinds meaning given (table_in found) (rows_in found) e
 
 -- the words are a command line of the program, and the fault is about an option of its subcommand
-abbrev pub IsRightOption : ProgramWords → Meanings → List Text → UsageFault → Type 0
-IsRightOption program meaning words e = (kinds_of program words ≡ []) × IsRightIn program.kinds meaning (subcommand_of (abft_app program) words) e
+abbrev pub IsRightOption : ProgramWords → Meanings → Option (List ℕ) → List Text → UsageFault → Type 0
+IsRightOption program meaning given words e = (kinds_of program words ≡ []) × IsRightIn program.kinds meaning given (subcommand_of (abft_app program) words) e
 
 -- the fault is true of the words: clap returns an error of this kind for them, or they are a command line and an option
 -- has this fault
-abbrev pub IsRightFault : ProgramWords → Meanings → List Text → UsageFault → Type 0
-IsRightFault program meaning words (fault.CommandLine error) = HasKind (kinds_of program words) error
-IsRightFault program meaning words (fault.NamedInput name input word) = IsAmong kind.UnknownArgument (kinds_of program words)
+abbrev pub IsRightFault : ProgramWords → Meanings → Option (List ℕ) → List Text → UsageFault → Type 0
+IsRightFault program meaning given words (fault.CommandLine error) = HasKind (kinds_of program words) error
+IsRightFault program meaning given words (fault.NamedInput name input word) = IsAmong kind.UnknownArgument (kinds_of program words)
     × NamesInput program.name words (fault.NamedInput name input word)
-IsRightFault program meaning words (fault.Number option least most word) = IsRightOption program meaning words (fault.Number option least most word)
-IsRightFault program meaning words (fault.Neither option one other word) = IsRightOption program meaning words (fault.Neither option one other word)
-IsRightFault program meaning words (fault.Seed word) = IsRightOption program meaning words (fault.Seed word)
-IsRightFault program meaning words (fault.TooFew replicas faults) = IsRightOption program meaning words (fault.TooFew replicas faults)
-IsRightFault program meaning words (fault.Spelling option why) = IsRightOption program meaning words (fault.Spelling option why)
-IsRightFault program meaning words (fault.NoTransaction option word) = IsRightOption program meaning words (fault.NoTransaction option word)
-IsRightFault program meaning words (fault.Rejected option code word) = IsRightOption program meaning words (fault.Rejected option code word)
-IsRightFault program meaning words (fault.Receipt word) = IsRightOption program meaning words (fault.Receipt word)
-IsRightFault program meaning words (fault.What word) = IsRightOption program meaning words (fault.What word)
-IsRightFault program meaning words (fault.Level word) = IsRightOption program meaning words (fault.Level word)
-IsRightFault program meaning words (fault.Missing option) = IsRightOption program meaning words (fault.Missing option)
-IsRightFault program meaning words fault.NoSubcommand = IsRightOption program meaning words fault.NoSubcommand
-IsRightFault program meaning words fault.NoMemory = ⊤
+IsRightFault program meaning given words (fault.Number option least most word) = IsRightOption program meaning given words (fault.Number option least most word)
+IsRightFault program meaning given words (fault.Neither option one other word) = IsRightOption program meaning given words (fault.Neither option one other word)
+IsRightFault program meaning given words (fault.Kind word) = IsRightOption program meaning given words (fault.Kind word)
+IsRightFault program meaning given words (fault.Seed taken word) = IsRightOption program meaning given words (fault.Seed taken word)
+IsRightFault program meaning given words (fault.SeedFile file) = IsRightOption program meaning given words (fault.SeedFile file)
+IsRightFault program meaning given words fault.TwoSeeds = IsRightOption program meaning given words fault.TwoSeeds
+IsRightFault program meaning given words (fault.TooFew replicas faults) = IsRightOption program meaning given words (fault.TooFew replicas faults)
+IsRightFault program meaning given words (fault.Spelling option why) = IsRightOption program meaning given words (fault.Spelling option why)
+IsRightFault program meaning given words (fault.NoTransaction option word) = IsRightOption program meaning given words (fault.NoTransaction option word)
+IsRightFault program meaning given words (fault.Rejected option code word) = IsRightOption program meaning given words (fault.Rejected option code word)
+IsRightFault program meaning given words (fault.Receipt word) = IsRightOption program meaning given words (fault.Receipt word)
+IsRightFault program meaning given words (fault.What word) = IsRightOption program meaning given words (fault.What word)
+IsRightFault program meaning given words (fault.Level word) = IsRightOption program meaning given words (fault.Level word)
+IsRightFault program meaning given words (fault.Missing option) = IsRightOption program meaning given words (fault.Missing option)
+IsRightFault program meaning given words fault.NoSubcommand = IsRightOption program meaning given words fault.NoSubcommand
+IsRightFault program meaning given words fault.NoMemory = ⊤

@@ -66,6 +66,10 @@ with_subcommands a (s ∷ ss) = with_subcommands (with_subcommand a s.top) ss
 abbrev pub seed_rule : Rule
 seed_rule = option_rule (codes "seed") (codes "0000000000000000000000000000000000000000000000000000000000000000")
 
+-- the options of the seed: its digits, or a file that has it
+abbrev pub with_seed : App → App
+with_seed a = with_rule (with_rule a seed_rule) (optional_rule (codes "seed-file"))
+
 -- the option that chooses an application, in a program of the three
 abbrev pub with_kind : AppKinds → App → App
 with_kind Three a = with_rule a (option_rule (codes "kind") (codes "1"))
@@ -74,13 +78,12 @@ with_kind OwnAlone a = a
 -- the options of a cluster, which every subcommand but `simulate` has
 abbrev pub with_cluster : ProgramWords → App → App
 with_cluster program a =
-    with_rule (with_rule (with_rule (with_rule (with_kind program.kinds (with_rule (with_rule a
+    with_seed (with_rule (with_rule (with_rule (with_kind program.kinds (with_rule (with_rule a
     (option_rule (codes "n") (codes "4")))
     (option_rule (codes "t") (codes "1"))))
     (option_rule (codes "w") (codes "4")))
     (option_rule (codes "tree") (codes "5")))
     (option_rule (codes "frames") (codes "1")))
-    seed_rule
 
 -- the statement to sign: a word that is required
 abbrev pub what_rule : Rule
@@ -114,7 +117,7 @@ deliver_app program = with_deliver program (with_cluster program (new_app (codes
 
 -- `abft simulate`: the seed, and whether to write histories
 abbrev pub simulate_app : App
-simulate_app = with_rule (with_rule (new_app (codes "simulate")) seed_rule) (flag_rule (codes "histories"))
+simulate_app = with_rule (with_seed (new_app (codes "simulate"))) (flag_rule (codes "histories"))
 
 -- the options of a run that have a value
 abbrev pub with_run : ProgramWords → App → App

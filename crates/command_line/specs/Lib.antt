@@ -1,4 +1,6 @@
 pub mod Grammar
 pub mod Receipts
+pub mod Seeds
 pub mod Options
 pub mod Faults
+pub mod SeedSources

@@ -3,7 +3,7 @@
 use Rattle.ledger_model.specs.declared.config.AppKinds.{AppKinds}
 use Rattle.app_states.specs.ProgramWords.{ProgramWords}
 use Rattle.ledger_model.specs.Meanings.{Meanings}
-use Rattle.std.specs.Prelude.{◌≡◌, ℕ, ◌==◌, Bool, true, false, not, ◌&&◌, ◌||◌, ◌≤◌, ◌+◌, ◌-◌, ◌*◌, IsTrue, List, [], ◌∷◌, ◌++◌, length, codes, Option, Some}
+use Rattle.std.specs.Prelude.{◌≡◌, ℕ, ◌==◌, Bool, true, false, not, ◌&&◌, ◌||◌, ◌≤◌, ◌+◌, ◌-◌, ◌*◌, IsTrue, List, [], ◌∷◌, ◌++◌, length, codes, Option, Some, MatchOption, ◌≢◌}
 use Rattle.std.specs.Prelude.{None, Ok, ◌⊎◌, ◌↔◌, find, option_and_then, option_map, if◌then◌else◌}
 use Rattle.std.specs.List.{list_any}
 use Rattle.std.specs.Str.{bytes_eq}
@@ -14,7 +14,7 @@ use Rattle.clap.specs.Words.{Row, Text, first_of, kind_of, subcommand_of, takes}
 use Rattle.clap.specs.declared.error.ErrorKind.TheVariants as kind
 use Rattle.clap.specs.declared.parser.matches.ValueSource.TheVariants.{CommandLine}
 use Rattle.ledger_model.specs.declared.config.AppKind.{AppKind}
-use Rattle.ledger_model.specs.declared.config.AppKind.TheVariants.{Own}
+use Rattle.ledger_model.specs.declared.config.AppKind.TheVariants.{Own, KvStore, Counter, Purse}
 use Rattle.ledger_model.specs.declared.config.AppKinds.TheVariants.{Three, OwnAlone}
 use Rattle.ledger_model.specs.Replies.{check_reply}
 use Rattle.ledger_model.specs.Numbers.{kind_number, version_number}
@@ -24,6 +24,8 @@ use Rattle.log.specs.declared.level.LevelFilter.{LevelFilter}
 use Rattle.log.specs.declared.level.LevelFilter.TheVariants.{Off}
 use Rattle.command_line.specs.Grammar.{abft_app}
 use Rattle.command_line.specs.Receipts.{SpellsReceipt}
+use Rattle.command_line.specs.declared.seed_words.SeedWords.{SeedWords}
+use Rattle.command_line.specs.declared.seed_words.SeedWords.TheVariants.{Digits, DigitsOrRandom}
 use Rattle.command_line.specs.declared.usage_fault.UsageFault.{UsageFault}
 use Rattle.command_line.specs.declared.usage_fault.UsageFault.TheVariants as fault
 use Rattle.cluster_setup.specs.declared.cluster_seed.ClusterSeed.{ClusterSeed}
@@ -50,11 +52,12 @@ pub record Limits : Type 0 where
   pub least : ℕ
   pub most : ℕ
 
--- the options of a subcommand that have a value: those that take a number within limits, those that take a transaction, and all of
--- them by name
+-- the options of a subcommand that have a value: those that take a number within limits, those that take a transaction, what `--seed`
+-- takes, and all of them by name
 pub record OptionTable : Type 0 where
   pub numbers : List Limits
   pub transactions : List Text
+  pub seed_words : SeedWords
   pub names : List Text
 
 -- an option that takes the numbers from `least` to `most`
@@ -63,17 +66,18 @@ limits option least most = record { option = option; least = least; most = most 
 
 -- the numbers of a cluster, which every subcommand but `abft simulate` has
 abbrev pub cluster_numbers : List Limits
-cluster_numbers = limits (codes "n") 4 13 ∷ limits (codes "t") 1 4 ∷ limits (codes "kind") 1 3 ∷ limits (codes "frames") 1 2 ∷ []
+cluster_numbers = limits (codes "n") 4 13 ∷ limits (codes "t") 1 4 ∷ limits (codes "frames") 1 2 ∷ []
 
 -- the options of a cluster that have a value
 abbrev pub cluster_names : List Text
-cluster_names = codes "n" ∷ codes "t" ∷ codes "kind" ∷ codes "w" ∷ codes "tree" ∷ codes "frames" ∷ codes "seed" ∷ []
+cluster_names = codes "n" ∷ codes "t" ∷ codes "kind" ∷ codes "w" ∷ codes "tree" ∷ codes "frames" ∷ codes "seed" ∷ codes "seed-file" ∷ []
 
 -- the options of `abft sign`
 abbrev pub sign_options : OptionTable
 sign_options = record {
   numbers = cluster_numbers ++ limits (codes "height") 1 4096 ∷ limits (codes "phase") 1 1000000000 ∷ [];
   transactions = codes "value" ∷ [];
+  seed_words = Digits;
   names = cluster_names ++ codes "what" ∷ codes "replica" ∷ codes "height" ∷ codes "phase" ∷ codes "value" ∷ [];
 }
 
@@ -82,18 +86,21 @@ abbrev pub deliver_options : OptionTable
 deliver_options = record {
   numbers = cluster_numbers ++ limits (codes "height") 1 4 ∷ limits (codes "rounds") 0 4000000000 ∷ [];
   transactions = codes "value" ∷ [];
+  seed_words = Digits;
   names = cluster_names ++ codes "replica" ∷ codes "value" ∷ codes "height" ∷ codes "rounds" ∷ [];
 }
 
 -- of `abft simulate`
 abbrev pub simulate_options : OptionTable
-simulate_options = record { numbers = []; transactions = []; names = codes "seed" ∷ [] }
+simulate_options =
+    record { numbers = []; transactions = []; seed_words = Digits; names = codes "seed" ∷ codes "seed-file" ∷ [] }
 
 -- of `abft cluster`
 abbrev pub running_options : OptionTable
 running_options = record {
   numbers = cluster_numbers ++ limits (codes "rounds") 0 4000000000 ∷ limits (codes "base-ms") 1 60000 ∷ [];
   transactions = codes "tx" ∷ [];
+  seed_words = DigitsOrRandom;
   names = cluster_names ++ codes "tx" ∷ codes "rounds" ∷ codes "base-ms" ∷ codes "log" ∷ codes "histories" ∷ [];
 }
 
@@ -104,12 +111,13 @@ serve_options = record {
       ∷ limits (codes "sessions") 1 1000
       ∷ limits (codes "client-entries") 0 65536 ∷ [];
   transactions = running_options.transactions;
+  seed_words = running_options.seed_words;
   names = running_options.names ++ codes "port" ∷ codes "http" ∷ codes "sessions" ∷ codes "client-entries" ∷ [];
 }
 
 -- of `abft audit`
 abbrev pub audit_options : OptionTable
-audit_options = record { numbers = cluster_numbers; transactions = []; names = cluster_names ++ codes "receipt" ∷ [] }
+audit_options = record { numbers = cluster_numbers; transactions = []; seed_words = Digits; names = cluster_names ++ codes "receipt" ∷ [] }
 
 -- of `abft draw`
 abbrev pub draw_options : OptionTable
@@ -117,6 +125,7 @@ draw_options = record {
   numbers = cluster_numbers ++ limits (codes "height") 0 4096 ∷ limits (codes "first") 0 4000000000 ∷ limits
       (codes "last") 0 4000000000 ∷ [];
   transactions = [];
+  seed_words = Digits;
   names = cluster_names ++ codes "height" ∷ codes "first" ∷ codes "last" ∷ [];
 }
 
@@ -130,7 +139,7 @@ options_of name =
     else if bytes_eq name (codes "serve") then serve_options
     else if bytes_eq name (codes "audit") then audit_options
     else if bytes_eq name (codes "draw") then draw_options
-    else record { numbers = []; transactions = []; names = [] }
+    else record { numbers = []; transactions = []; seed_words = Digits; names = [] }
 
 -- the text is one of these
 abbrev pub is_one_of : Text → List Text → Bool
@@ -181,23 +190,28 @@ TakesEither kinds table option one other =
     HasOption kinds table option
     × (((option ≡ codes "w") × (one ≡ 4) × (other ≡ 8)) ⊎ ((option ≡ codes "tree") × (one ≡ 5) × (other ≡ 10)))
 
--- the table has the options of a cluster
-pub record HasCluster (kinds : AppKinds) (table : OptionTable) : Type 0 where
+-- the table has the options of the seed, and `--seed` takes these words
+pub record HasSeed (kinds : AppKinds) (taken : SeedWords) (table : OptionTable) : Type 0 where
+  pub seed : HasOption kinds table (codes "seed")
+  pub file : HasOption kinds table (codes "seed-file")
+  pub words : table.seed_words ≡ taken
+
+-- the table has the options of a cluster, and `--seed` takes these words
+pub record HasCluster (kinds : AppKinds) (taken : SeedWords) (table : OptionTable) : Type 0 where
   pub n : HasOption kinds table (codes "n")
   pub n_limits : IsTrue (list_any (is_limit (codes "n") 4 13) table.numbers)
   pub t : HasOption kinds table (codes "t")
   pub t_limits : IsTrue (list_any (is_limit (codes "t") 1 4) table.numbers)
   pub kind : kinds ≡ Three → HasOption kinds table (codes "kind")
-  pub kind_limits : IsTrue (list_any (is_limit (codes "kind") 1 3) table.numbers)
   pub w : HasOption kinds table (codes "w")
   pub tree : HasOption kinds table (codes "tree")
   pub frames : HasOption kinds table (codes "frames")
   pub frames_limits : IsTrue (list_any (is_limit (codes "frames") 1 2) table.numbers)
-  pub seed : HasOption kinds table (codes "seed")
+  pub seed : HasSeed kinds taken table
 
 -- the table has the options of a running cluster
 pub record HasRunning (kinds : AppKinds) (table : OptionTable) : Type 0 where
-  pub cluster : HasCluster kinds table
+  pub cluster : HasCluster kinds DigitsOrRandom table
   pub tx : TakesTransaction kinds table (codes "tx")
   pub rounds : HasOption kinds table (codes "rounds")
   pub rounds_limits : IsTrue (list_any (is_limit (codes "rounds") 0 4000000000) table.numbers)
@@ -205,11 +219,32 @@ pub record HasRunning (kinds : AppKinds) (table : OptionTable) : Type 0 where
   pub base_limits : IsTrue (list_any (is_limit (codes "base-ms") 1 60000) table.numbers)
   pub log : HasOption kinds table (codes "log")
 
--- the option's value is the 64 hexadecimal digits of these bytes
-pub record IsSeed (rows : List Row) (seed : List ℕ) : Type 0 where
-  pub text : Text
-  pub has : first_of (codes "seed") rows ≡ Some text
-  pub decoded : decode_sized text 32 ≡ Ok seed
+-- the words contain the option: its value is not its default
+abbrev pub IsNamed : List Row → Text → Type 0
+IsNamed rows name = option_and_then (λ r. r.source) (find (λ r. bytes_eq r.id name) rows) ≡ Some CommandLine
+
+-- the word is `random`, where `--seed` takes that, and this seed is given
+abbrev pub IsDrawn : SeedWords → Option (List ℕ) → Text → List ℕ → Type 0
+IsDrawn Digits given word seed = ⊥
+IsDrawn DigitsOrRandom given word seed = (word ≡ codes "random") × (given ≡ Some seed)
+
+-- the value of `--seed` is the 64 hexadecimal digits of the seed, whatever is given, or `random`
+pub record IsWordSeed (taken : SeedWords) (given : Option (List ℕ)) (rows : List Row) (seed : List ℕ) : Type 0 where
+  pub word : Text
+  pub has : first_of (codes "seed") rows ≡ Some word
+  pub means : (decode_sized word 32 ≡ Ok seed) ⊎ IsDrawn taken given word seed
+
+-- the words contain no `--seed`, the file is not `-`, and this seed is given
+pub record IsFileSeed (file : Text) (given : Option (List ℕ)) (rows : List Row) (seed : List ℕ) : Type 0 where
+  pub alone : IsNamed rows (codes "seed") → ⊥
+  pub named : file ≢ codes "-"
+  pub read : given ≡ Some seed
+
+-- The seed of all keys: that of the file, if the words contain `--seed-file`, and else that of `--seed`. What a file has, and what is
+-- drawn, no clause can say, so this seed is given.
+abbrev pub IsSeed : SeedWords → Option (List ℕ) → List Row → List ℕ → Type 0
+IsSeed taken given rows seed =
+    MatchOption (first_of (codes "seed-file") rows) (IsWordSeed taken given rows seed) (λ file. IsFileSeed file given rows seed)
 
 -- the option's value encodes this transaction
 pub record IsWritten (rows : List Row) (name : Text) (tx : List ℕ) : Type 0 where
@@ -223,10 +258,6 @@ pub record IsWritten (rows : List Row) (name : Text) (tx : List ℕ) : Type 0 wh
 pub record IsAccepted (meaning : Meanings) (rows : List Row) (name : Text) (kind : AppKind) (tx : List ℕ) : Type 0 where
   pub written : IsWritten rows name tx
   pub checked : check_reply meaning kind [] tx ≡ 0
-
--- the words contain the option: its value is not its default
-abbrev pub IsNamed : List Row → Text → Type 0
-IsNamed rows name = option_and_then (λ r. r.source) (find (λ r. bytes_eq r.id name) rows) ≡ Some CommandLine
 
 -- the words contain a receipt, and it is this one, or they contain none
 abbrev pub SetsReceipt : List Row → Option Receipt → Type 0
@@ -247,13 +278,26 @@ pub record SetsLog (rows : List Row) (level : LevelFilter) : Type 0 where
   pub quiet : IsNamed rows (codes "quiet") → level ≡ Off
   pub loud : (IsNamed rows (codes "quiet") → ⊥) → level ≡ named
 
--- the cluster's kind: the option's, in a program of the three, or that of the program's own application
+-- the word is the name of this application, one of the three
+abbrev pub NamesKind : AppKind → Text → Type 0
+NamesKind Own word = ⊥
+NamesKind KvStore word = word ≡ codes "kvstore"
+NamesKind Counter word = word ≡ codes "counter"
+NamesKind Purse word = word ≡ codes "purse"
+
+-- the option's value is the name of this application
+pub record IsNamedKind (rows : List Row) (kind : AppKind) : Type 0 where
+  pub word : Text
+  pub has : first_of (codes "kind") rows ≡ Some word
+  pub names : NamesKind kind word
+
+-- the cluster's kind: the option's value is its number or its name, in a program of the three; or that of the program's own application
 abbrev pub SetsKind : AppKinds → List Row → AppKind → Type 0
-SetsKind Three rows kind = IsNumberWithin rows (codes "kind") 1 3 (kind_number kind)
+SetsKind Three rows kind = IsNumberWithin rows (codes "kind") 1 3 (kind_number kind) ⊎ IsNamedKind rows kind
 SetsKind OwnAlone rows kind = kind ≡ Own
 
--- the options of a cluster
-pub record SetsCluster (kinds : AppKinds) (rows : List Row) (cluster : ClusterSeed) : Type 0 where
+-- the options of a cluster, where `--seed` takes these words
+pub record SetsCluster (kinds : AppKinds) (taken : SeedWords) (given : Option (List ℕ)) (rows : List Row) (cluster : ClusterSeed) : Type 0 where
   pub n : IsNumberWithin rows (codes "n") 0 255 cluster.config.replicas
   pub t : IsNumberWithin rows (codes "t") 0 255 cluster.config.faults
   pub kind : SetsKind kinds rows cluster.config.kind
@@ -263,7 +307,7 @@ pub record SetsCluster (kinds : AppKinds) (rows : List Row) (cluster : ClusterSe
   pub w : IsNumberWithin rows (codes "w") 4 8 (bits_of cluster.params.width)
   pub tree : IsNumberWithin rows (codes "tree") 5 10 (levels_of cluster.params.height)
   pub frames : IsNumberWithin rows (codes "frames") 1 2 (version_number cluster.config.frames)
-  pub seed : IsSeed rows cluster.seed
+  pub seed : IsSeed taken given rows cluster.seed
 
 -- the word that names the statement to sign
 abbrev pub word_of : What → Text
@@ -271,8 +315,8 @@ word_of Report = codes "report"
 word_of Ack = codes "ack"
 
 -- the options of `abft sign` set these settings
-pub record SetsSign (kinds : AppKinds) (rows : List Row) (s : SignSettings) : Type 0 where
-  pub cluster : SetsCluster kinds rows s.cluster
+pub record SetsSign (kinds : AppKinds) (given : Option (List ℕ)) (rows : List Row) (s : SignSettings) : Type 0 where
+  pub cluster : SetsCluster kinds Digits given rows s.cluster
   pub what : first_of (codes "what") rows ≡ Some (word_of s.what)
   pub replica : IsNumberWithin rows (codes "replica") 0 (s.cluster.config.replicas - 1) s.replica
   pub height : IsNumberWithin rows (codes "height") 1 4096 s.height
@@ -280,23 +324,23 @@ pub record SetsSign (kinds : AppKinds) (rows : List Row) (s : SignSettings) : Ty
   pub value : IsWritten rows (codes "value") s.value
 
 -- the options of `abft deliver` set these settings
-pub record SetsDeliver (kinds : AppKinds) (meaning : Meanings) (rows : List Row) (s : DeliverSettings) : Type 0 where
-  pub cluster : SetsCluster kinds rows s.cluster
+pub record SetsDeliver (kinds : AppKinds) (meaning : Meanings) (given : Option (List ℕ)) (rows : List Row) (s : DeliverSettings) : Type 0 where
+  pub cluster : SetsCluster kinds Digits given rows s.cluster
   pub replica : IsNumberWithin rows (codes "replica") 0 (s.cluster.config.replicas - 1) s.replica
   pub value : IsAccepted meaning rows (codes "value") s.cluster.config.kind s.value
   pub height : IsNumberWithin rows (codes "height") 1 4 s.height
   pub rounds : IsNumberWithin rows (codes "rounds") 0 4000000000 s.rounds
 
 -- the options of `abft simulate` set these settings; histories are to be written if the words contain that option
-pub record SetsSimulate (rows : List Row) (s : SimulateSettings) : Type 0 where
-  pub seed : IsSeed rows s.seed
+pub record SetsSimulate (given : Option (List ℕ)) (rows : List Row) (s : SimulateSettings) : Type 0 where
+  pub seed : IsSeed Digits given rows s.seed
   pub histories : IsTrue s.histories ↔ IsNamed rows (codes "histories")
 
 -- The options of `abft cluster` set these settings. The run ends with standard input, and rounds are short again after each block, if the
 -- words contain those options; blocks may be empty, unless the words contain `--no-empty-blocks`. The histories are written to the file that
 -- the words name, if they name one.
-pub record SetsRunning (kinds : AppKinds) (meaning : Meanings) (rows : List Row) (s : ClusterSettings) : Type 0 where
-  pub cluster : SetsCluster kinds rows s.cluster
+pub record SetsRunning (kinds : AppKinds) (meaning : Meanings) (given : Option (List ℕ)) (rows : List Row) (s : ClusterSettings) : Type 0 where
+  pub cluster : SetsCluster kinds DigitsOrRandom given rows s.cluster
   pub tx : IsAccepted meaning rows (codes "tx") s.cluster.config.kind s.tx
   pub rounds : IsNumberWithin rows (codes "rounds") 0 4000000000 s.rounds
   pub base : IsNumberWithin rows (codes "base-ms") 1 60000 s.base_ms
@@ -307,50 +351,53 @@ pub record SetsRunning (kinds : AppKinds) (meaning : Meanings) (rows : List Row)
   pub histories : option_map string_bytes s.histories ≡ first_of (codes "histories") rows
 
 -- the options of `abft serve` set these settings
-pub record SetsServe (kinds : AppKinds) (meaning : Meanings) (rows : List Row) (s : ServeSettings) : Type 0 where
-  pub cluster : SetsRunning kinds meaning rows s.cluster
+pub record SetsServe (kinds : AppKinds) (meaning : Meanings) (given : Option (List ℕ)) (rows : List Row) (s : ServeSettings) : Type 0 where
+  pub cluster : SetsRunning kinds meaning given rows s.cluster
   pub port : IsNumberWithin rows (codes "port") 0 65535 s.port
   pub http : SetsPort rows (codes "http") s.http
   pub sessions : IsNumberWithin rows (codes "sessions") 1 1000 s.sessions
   pub entries : IsNumberWithin rows (codes "client-entries") 0 65536 s.client_entries
 
 -- the options of `abft audit` set these settings
-pub record SetsAudit (kinds : AppKinds) (rows : List Row) (s : AuditSettings) : Type 0 where
-  pub cluster : SetsCluster kinds rows s.cluster
+pub record SetsAudit (kinds : AppKinds) (given : Option (List ℕ)) (rows : List Row) (s : AuditSettings) : Type 0 where
+  pub cluster : SetsCluster kinds Digits given rows s.cluster
   pub receipt : SetsReceipt rows s.receipt
 
 -- the options of `abft draw` set these settings
-pub record SetsDraw (kinds : AppKinds) (rows : List Row) (s : DrawSettings) : Type 0 where
-  pub cluster : SetsCluster kinds rows s.cluster
+pub record SetsDraw (kinds : AppKinds) (given : Option (List ℕ)) (rows : List Row) (s : DrawSettings) : Type 0 where
+  pub cluster : SetsCluster kinds Digits given rows s.cluster
   pub height : IsNumberWithin rows (codes "height") 0 4096 s.height
   pub first : IsNumberWithin rows (codes "first") 0 4000000000 s.first
   pub last : IsNumberWithin rows (codes "last") 0 4000000000 s.last
 
--- the subcommand that the words name sets these settings with its options
-abbrev pub Sets : AppKinds → Meanings → Option (Text × List Row) → Settings → Type 0
-Sets kinds meaning None s = ⊥
-Sets kinds meaning (Some found) (settings.Sign s) = (found.0 ≡ codes "sign") × SetsSign kinds found.1 s
-Sets kinds meaning (Some found) (settings.Deliver s) = (found.0 ≡ codes "deliver") × SetsDeliver kinds meaning found.1 s
-Sets kinds meaning (Some found) (settings.Simulate s) = (found.0 ≡ codes "simulate") × SetsSimulate found.1 s
-Sets kinds meaning (Some found) (settings.Cluster s) = (found.0 ≡ codes "cluster") × SetsRunning kinds meaning found.1 s
-Sets kinds meaning (Some found) (settings.Serve s) = (found.0 ≡ codes "serve") × SetsServe kinds meaning found.1 s
-Sets kinds meaning (Some found) (settings.Audit s) = (found.0 ≡ codes "audit") × SetsAudit kinds found.1 s
-Sets kinds meaning (Some found) (settings.Draw s) = (found.0 ≡ codes "draw") × SetsDraw kinds found.1 s
+-- the subcommand that the words name sets these settings with its options, and with the seed that is given, if they ask for that
+abbrev pub Sets : AppKinds → Meanings → Option (List ℕ) → Option (Text × List Row) → Settings → Type 0
+Sets kinds meaning given None s = ⊥
+Sets kinds meaning given (Some found) (settings.Sign s) = (found.0 ≡ codes "sign") × SetsSign kinds given found.1 s
+Sets kinds meaning given (Some found) (settings.Deliver s) = (found.0 ≡ codes "deliver") × SetsDeliver kinds meaning given found.1 s
+Sets kinds meaning given (Some found) (settings.Simulate s) = (found.0 ≡ codes "simulate") × SetsSimulate given found.1 s
+Sets kinds meaning given (Some found) (settings.Cluster s) = (found.0 ≡ codes "cluster") × SetsRunning kinds meaning given found.1 s
+Sets kinds meaning given (Some found) (settings.Serve s) = (found.0 ≡ codes "serve") × SetsServe kinds meaning given found.1 s
+Sets kinds meaning given (Some found) (settings.Audit s) = (found.0 ≡ codes "audit") × SetsAudit kinds given found.1 s
+Sets kinds meaning given (Some found) (settings.Draw s) = (found.0 ≡ codes "draw") × SetsDraw kinds given found.1 s
 
--- the words give these settings
-abbrev pub IsSet : ProgramWords → Meanings → List Text → Settings → Type 0
-IsSet program meaning words s = Sets program.kinds meaning (subcommand_of (abft_app program) words) s
+-- the words give these settings, with the seed that is given, if they ask for that
+abbrev pub IsSet : ProgramWords → Meanings → Option (List ℕ) → List Text → Settings → Type 0
+IsSet program meaning given words s = Sets program.kinds meaning given (subcommand_of (abft_app program) words) s
 
 -- the words are no command line of the program, or give no settings
-abbrev pub IsRefused : ProgramWords → Meanings → List Text → Type 0
-IsRefused program meaning words = takes (abft_app program) words ≡ true → (s : Settings) → IsSet program meaning words s → ⊥
+abbrev pub IsRefused : ProgramWords → Meanings → Option (List ℕ) → List Text → Type 0
+IsRefused program meaning given words = takes (abft_app program) words ≡ true → (s : Settings) → IsSet program meaning given words s → ⊥
 
 -- the fault is that memory ran out, here or in clap
 abbrev pub WantsMemory : UsageFault → Type 0
 WantsMemory (fault.CommandLine error) = kind_of error ≡ kind.OutOfMemory
 WantsMemory (fault.Number option least most word) = ⊥
 WantsMemory (fault.Neither option one other word) = ⊥
-WantsMemory (fault.Seed word) = ⊥
+WantsMemory (fault.Kind word) = ⊥
+WantsMemory (fault.Seed taken word) = ⊥
+WantsMemory (fault.SeedFile file) = ⊥
+WantsMemory fault.TwoSeeds = ⊥
 WantsMemory (fault.TooFew replicas faults) = ⊥
 WantsMemory (fault.Spelling option why) = ⊥
 WantsMemory (fault.NoTransaction option word) = ⊥
@@ -368,7 +415,10 @@ abbrev pub AsksForText : UsageFault → Type 0
 AsksForText (fault.CommandLine error) = (kind_of error ≡ kind.DisplayHelp) ⊎ (kind_of error ≡ kind.DisplayVersion)
 AsksForText (fault.Number option least most word) = ⊥
 AsksForText (fault.Neither option one other word) = ⊥
-AsksForText (fault.Seed word) = ⊥
+AsksForText (fault.Kind word) = ⊥
+AsksForText (fault.Seed taken word) = ⊥
+AsksForText (fault.SeedFile file) = ⊥
+AsksForText fault.TwoSeeds = ⊥
 AsksForText (fault.TooFew replicas faults) = ⊥
 AsksForText (fault.Spelling option why) = ⊥
 AsksForText (fault.NoTransaction option word) = ⊥

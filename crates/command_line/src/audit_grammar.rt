@@ -1,5 +1,5 @@
 //! The grammar of `abft audit`.
-use crate::shared_arguments::{APP_KIND, FAULTS, FRAMES, REPLICAS, SEED, TREE, WIDTH};
+use crate::shared_arguments::{APP_KIND, FAULTS, FRAMES, REPLICAS, SEED, SEED_FILE, TREE, WIDTH};
 use crate::subcommand::{Argument, Kind, Subcommand};
 
 /// The end of `abft audit --help`.
@@ -42,7 +42,7 @@ pub(crate) const AUDIT: Subcommand = Subcommand {
     about: "Audits the histories of standard input, and prints their one ledger, or the first fault",
     usage: Some("abft audit [OPTIONS] <HISTORIES"),
     arguments: &[
-        REPLICAS, FAULTS, APP_KIND, WIDTH, TREE, FRAMES, SEED, RECEIPT,
+        REPLICAS, FAULTS, APP_KIND, WIDTH, TREE, FRAMES, SEED, SEED_FILE, RECEIPT,
     ],
     after_help: FINDINGS,
     own_help: None,

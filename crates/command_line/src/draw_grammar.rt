@@ -1,5 +1,5 @@
 //! The grammar of `abft draw`.
-use crate::shared_arguments::{APP_KIND, FAULTS, FRAMES, REPLICAS, SEED, TREE, WIDTH};
+use crate::shared_arguments::{APP_KIND, FAULTS, FRAMES, REPLICAS, SEED, SEED_FILE, TREE, WIDTH};
 use crate::subcommand::{Argument, Kind, Subcommand};
 
 /// The end of `abft draw --help`.
@@ -43,7 +43,7 @@ pub(crate) const DRAW: Subcommand = Subcommand {
     about: "Draws the run of the histories of standard input, as an SVG document",
     usage: Some("abft draw [OPTIONS] <HISTORIES >PICTURE.svg"),
     arguments: &[
-        REPLICAS, FAULTS, APP_KIND, WIDTH, TREE, FRAMES, SEED, HEIGHT, FIRST, LAST,
+        REPLICAS, FAULTS, APP_KIND, WIDTH, TREE, FRAMES, SEED, SEED_FILE, HEIGHT, FIRST, LAST,
     ],
     after_help: PICTURE,
     own_help: None,

@@ -6,7 +6,7 @@ ghost use Rattle.command_line.specs.Grammar.{at_top, abft_app};
 use crate::audit_grammar::AUDIT;
 use crate::draw_grammar::DRAW;
 use crate::running_grammar::{RUN_CLUSTER, SERVE};
-use crate::shared_arguments::{APP_KIND, FAULTS, FRAMES, REPLICAS, SEED, TREE, WIDTH};
+use crate::shared_arguments::{APP_KIND, FAULTS, FRAMES, REPLICAS, SEED, SEED_FILE, TREE, WIDTH};
 use crate::subcommand::{Argument, Kind, Subcommand, clap_commands};
 use app_states::Opening;
 use clap::Command;
@@ -32,7 +32,7 @@ no flag ALL and no locks; an acknowledgement is on that batch.
 Exit status:
   0  the frame was written
   2  a fault of usage
-  3  out of memory, or a failed write
+  3  out of memory, a file that can't be read, or a failed write
 
 Every call reuses leaf 0, which makes the key forgeable. Use this seed only for experiments.";
 
@@ -147,7 +147,8 @@ const SIGN: Subcommand = Subcommand {
     about: "Signs a report or an acknowledgement, and writes its frame to standard output",
     usage: None,
     arguments: &[
-        REPLICAS, FAULTS, APP_KIND, WIDTH, TREE, FRAMES, SEED, WHAT, SIGNER, HEIGHT, PHASE, VALUE,
+        REPLICAS, FAULTS, APP_KIND, WIDTH, TREE, FRAMES, SEED, SEED_FILE, WHAT, SIGNER, HEIGHT,
+        PHASE, VALUE,
     ],
     after_help: SIGNED,
     own_help: None,
@@ -187,7 +188,8 @@ const DELIVER: Subcommand = Subcommand {
     about: "Delivers the frames of standard input to a replica, and prints what it answers",
     usage: Some("abft deliver [OPTIONS] <FRAMES"),
     arguments: &[
-        REPLICAS, FAULTS, APP_KIND, WIDTH, TREE, FRAMES, SEED, RECIPIENT, SUBMITTED, OPENED, ENDED,
+        REPLICAS, FAULTS, APP_KIND, WIDTH, TREE, FRAMES, SEED, SEED_FILE, RECIPIENT, SUBMITTED,
+        OPENED, ENDED,
     ],
     after_help: LINES,
     own_help: None,
@@ -205,7 +207,7 @@ const SIMULATE: Subcommand = Subcommand {
     name: "simulate",
     about: "Plays the scenario of standard input on a whole cluster, and prints what its replicas answer",
     usage: Some("abft simulate [OPTIONS] <SCENARIO"),
-    arguments: &[SEED, AS_BYTES],
+    arguments: &[SEED, SEED_FILE, AS_BYTES],
     after_help: SCENARIO,
     own_help: Some(OWN_SCENARIO),
 };

@@ -8,10 +8,16 @@ mod options;
 mod receipts;
 mod refused_words;
 mod running_grammar;
+mod seed_sources;
+mod seed_words;
+mod seeds;
 mod settings_of_words;
 mod shared_arguments;
 mod subcommand;
 mod usage_fault;
 
+pub use seed_sources::{SeedSource, seed_source};
+pub use seed_words::SeedWords;
+pub use seeds::seed_of_bytes;
 pub use settings_of_words::settings;
 pub use usage_fault::{Input, UsageFault};

@@ -1,5 +1,5 @@
 //! Reads the receipt that a client holds from the words.
-ghost use Rattle.std.specs.Prelude.{◌≡◌, ◌<◌, ◌^◌, ◌++◌, ◌∷◌, ℕ, IfSome, IfOk, IfErr, ◌⊎◌, IsSomeAnd, Option, codes};
+ghost use Rattle.std.specs.Prelude.{◌≡◌, ◌<◌, ◌^◌, ◌++◌, ◌∷◌, ℕ, List, IfSome, IfOk, IfErr, ◌⊎◌, IsSomeAnd, Option, codes};
 ghost use Rattle.clap.specs.Words.{Text, found_of, rows_of};
 ghost use Rattle.plain_text.specs.Numbers.{number_text};
 ghost use Rattle.ledger_model.specs.declared.config.AppKinds.{AppKinds};
@@ -93,8 +93,8 @@ pub(crate) fn receipt<'a>(
 ) -> Result<Option<Receipt>, UsageFault<'a>>
     ensures some { IfOk result (SetsReceipt (rows_of (found_of matches.now))) }
     ensures none { IfErr result (λ e. (r : Option Receipt) → SetsReceipt (rows_of (found_of matches.now)) r → WantsMemory e) }
-    ensures right { (kinds : AppKinds) (meaning : Meanings) (table : OptionTable) → HasOption kinds table (codes "receipt")
-        → IfErr result (IsRightOf kinds meaning table (rows_of (found_of matches.now))) }
+    ensures right { (kinds : AppKinds) (meaning : Meanings) (given : Option (List ℕ)) (table : OptionTable) → HasOption kinds table (codes "receipt")
+        → IfErr result (IsRightOf kinds meaning given table (rows_of (found_of matches.now))) }
 {
     match optional_text(matches, "receipt") {
         Some(text) => Ok(Some(spelled(alloc, text)?)),

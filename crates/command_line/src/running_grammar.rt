@@ -1,7 +1,7 @@
 //! The grammar of `abft cluster` and `abft serve`, the subcommands that run a whole cluster.
 use crate::shared_arguments::{
     APP_KIND, BASE_MS, FAULTS, FIRST_TX, FRAMES, HISTORIES, LOG, NO_EMPTY_BLOCKS, QUIET, REPLICAS,
-    ROUNDS, SEED, STEADY, STOP_EARLY, TREE, WIDTH,
+    ROUNDS, SEED_FILE, SEED_OR_RANDOM, STEADY, STOP_EARLY, TREE, WIDTH,
 };
 use crate::subcommand::{Argument, Kind, Subcommand};
 
@@ -21,7 +21,7 @@ Exit status:
   0  the rounds are over, or the cluster was asked to stop, and the audit found a ledger
   1  the audit found a fault
   2  a fault of usage
-  3  out of memory, a thread that can't be made, a file that can't be written, or a failed write";
+  3  out of memory, a thread that can't be made, a file that can't be read or written, or a failed write";
 
 /// The end of `abft serve --help`.
 const LISTENING: &str = "\
@@ -46,8 +46,8 @@ Exit status:
   0  the rounds are over, or the cluster was asked to stop, and the audit found a ledger
   1  the audit found a fault
   2  a fault of usage
-  3  out of memory, a thread that can't be made, a port that can't be listened at, a file that can't be written,
-     or a failed write";
+  3  out of memory, a thread that can't be made, a port that can't be listened at, a file that can't be read or
+     written, or a failed write";
 
 /// `abft cluster`.
 pub(crate) const RUN_CLUSTER: Subcommand = Subcommand {
@@ -61,7 +61,8 @@ pub(crate) const RUN_CLUSTER: Subcommand = Subcommand {
         WIDTH,
         TREE,
         FRAMES,
-        SEED,
+        SEED_OR_RANDOM,
+        SEED_FILE,
         FIRST_TX,
         ROUNDS,
         BASE_MS,
@@ -116,7 +117,8 @@ pub(crate) const SERVE: Subcommand = Subcommand {
         WIDTH,
         TREE,
         FRAMES,
-        SEED,
+        SEED_OR_RANDOM,
+        SEED_FILE,
         FIRST_TX,
         ROUNDS,
         BASE_MS,

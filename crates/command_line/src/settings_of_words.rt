@@ -1,5 +1,5 @@
 //! The settings that the words of a command line give.
-ghost use Rattle.std.specs.Prelude.{◌≡◌, [], map, true, IfOk, IfErr, OnErr};
+ghost use Rattle.std.specs.Prelude.{◌≡◌, ℕ, List, Option, [], map, true, IfOk, IfErr, OnErr};
 ghost use Rattle.clap.specs.Words.{found_of, rows_of, subcommand_of, subcommand_rows_of, takes};
 ghost use Rattle.ledger_model.specs.declared.config.AppKinds.{AppKinds};
 ghost use Rattle.ledger_model.specs.Meanings.{Meanings};
@@ -17,11 +17,13 @@ ghost use Rattle.cluster_setup.specs.declared.settings.Settings.{Settings};
 
 use crate::grammar::abft_command;
 use crate::options::{
-    accepted_transaction, cluster, file, is_named, log_filter, number, optional_port, seed,
-    small_number, transaction, what,
+    accepted_transaction, cluster, file, is_named, log_filter, number, optional_port, small_number,
+    transaction, what,
 };
 use crate::receipts::receipt;
 use crate::refused_words::fault_of;
+use crate::seed_words::SeedWords;
+use crate::seeds::seed;
 use crate::usage_fault::UsageFault;
 use app_states::Opening;
 use clap::ArgMatches;
@@ -36,12 +38,13 @@ use std::alloc::Global;
 fn sign_settings<'a, A: Opening>(
     alloc: Global,
     matches: &ArgMatches<'a>,
+    given: Option<[u8; 32]>,
 ) -> Result<SignSettings, UsageFault<'a>>
-    ensures some { IfOk result (λ s. SetsSign A.words.kinds (rows_of (found_of matches.now)) s) }
-    ensures none { IfErr result (λ e. (s : SignSettings) → SetsSign A.words.kinds (rows_of (found_of matches.now)) s → WantsMemory e) }
-    ensures right { (meaning : Meanings) → IfErr result (IsRightOf A.words.kinds meaning sign_options (rows_of (found_of matches.now))) }
+    ensures some { IfOk result (λ s. SetsSign A.words.kinds given (rows_of (found_of matches.now)) s) }
+    ensures none { IfErr result (λ e. (s : SignSettings) → SetsSign A.words.kinds given (rows_of (found_of matches.now)) s → WantsMemory e) }
+    ensures right { (meaning : Meanings) → IfErr result (IsRightOf A.words.kinds meaning given sign_options (rows_of (found_of matches.now))) }
 {
-    let cluster = cluster::<A>(matches)?;
+    let cluster = cluster::<A>(matches, SeedWords::Digits, given)?;
     let what = what(matches)?;
     let replica = small_number(matches, "replica", 0, cluster.config.replicas - 1)?;
     let height = number(matches, "height", 1, 4096)?;
@@ -61,12 +64,13 @@ fn sign_settings<'a, A: Opening>(
 fn deliver_settings<'a, A: Opening>(
     alloc: Global,
     matches: &ArgMatches<'a>,
+    given: Option<[u8; 32]>,
 ) -> Result<DeliverSettings, UsageFault<'a>>
-    ensures some { IfOk result (λ s. SetsDeliver A.words.kinds A.meaning (rows_of (found_of matches.now)) s) }
-    ensures none { IfErr result (λ e. (s : DeliverSettings) → SetsDeliver A.words.kinds A.meaning (rows_of (found_of matches.now)) s → WantsMemory e) }
-    ensures right { IfErr result (IsRightOf A.words.kinds A.meaning deliver_options (rows_of (found_of matches.now))) }
+    ensures some { IfOk result (λ s. SetsDeliver A.words.kinds A.meaning given (rows_of (found_of matches.now)) s) }
+    ensures none { IfErr result (λ e. (s : DeliverSettings) → SetsDeliver A.words.kinds A.meaning given (rows_of (found_of matches.now)) s → WantsMemory e) }
+    ensures right { IfErr result (IsRightOf A.words.kinds A.meaning given deliver_options (rows_of (found_of matches.now))) }
 {
-    let cluster = cluster::<A>(matches)?;
+    let cluster = cluster::<A>(matches, SeedWords::Digits, given)?;
     let replica = small_number(matches, "replica", 0, cluster.config.replicas - 1)?;
     let value = accepted_transaction::<A>(alloc, matches, "value", cluster.config.kind)?;
     let height = number(matches, "height", 1, 4)?;
@@ -81,12 +85,15 @@ fn deliver_settings<'a, A: Opening>(
 }
 
 /// The settings of `abft simulate`, from its matches.
-fn simulate_settings<'a>(matches: &ArgMatches<'a>) -> Result<SimulateSettings, UsageFault<'a>>
-    ensures some { IfOk result (λ s. SetsSimulate (rows_of (found_of matches.now)) s) }
-    ensures none { OnErr result ((s : SimulateSettings) → SetsSimulate (rows_of (found_of matches.now)) s → ⊥) }
-    ensures right { (kinds : AppKinds) (meaning : Meanings) → IfErr result (IsRightOf kinds meaning simulate_options (rows_of (found_of matches.now))) }
+fn simulate_settings<'a>(
+    matches: &ArgMatches<'a>,
+    given: Option<[u8; 32]>,
+) -> Result<SimulateSettings, UsageFault<'a>>
+    ensures some { IfOk result (λ s. SetsSimulate given (rows_of (found_of matches.now)) s) }
+    ensures none { OnErr result ((s : SimulateSettings) → SetsSimulate given (rows_of (found_of matches.now)) s → ⊥) }
+    ensures right { (kinds : AppKinds) (meaning : Meanings) → IfErr result (IsRightOf kinds meaning given simulate_options (rows_of (found_of matches.now))) }
 {
-    let seed = seed(matches)?;
+    let seed = seed(matches, SeedWords::Digits, given)?;
     Ok(SimulateSettings {
         seed,
         histories: is_named(matches, "histories"),
@@ -97,12 +104,13 @@ fn simulate_settings<'a>(matches: &ArgMatches<'a>) -> Result<SimulateSettings, U
 fn cluster_settings<'a, A: Opening>(
     alloc: Global,
     matches: &ArgMatches<'a>,
+    given: Option<[u8; 32]>,
 ) -> Result<ClusterSettings, UsageFault<'a>>
-    ensures some { IfOk result (λ s. SetsRunning A.words.kinds A.meaning (rows_of (found_of matches.now)) s) }
-    ensures none { IfErr result (λ e. (s : ClusterSettings) → SetsRunning A.words.kinds A.meaning (rows_of (found_of matches.now)) s → WantsMemory e) }
-    ensures right { (table : OptionTable) → HasRunning A.words.kinds table → IfErr result (IsRightOf A.words.kinds A.meaning table (rows_of (found_of matches.now))) }
+    ensures some { IfOk result (λ s. SetsRunning A.words.kinds A.meaning given (rows_of (found_of matches.now)) s) }
+    ensures none { IfErr result (λ e. (s : ClusterSettings) → SetsRunning A.words.kinds A.meaning given (rows_of (found_of matches.now)) s → WantsMemory e) }
+    ensures right { (table : OptionTable) → HasRunning A.words.kinds table → IfErr result (IsRightOf A.words.kinds A.meaning given table (rows_of (found_of matches.now))) }
 {
-    let cluster = cluster::<A>(matches)?;
+    let cluster = cluster::<A>(matches, SeedWords::DigitsOrRandom, given)?;
     let tx = accepted_transaction::<A>(alloc, matches, "tx", cluster.config.kind)?;
     let rounds = number(matches, "rounds", 0, 4_000_000_000)?;
     let base_ms = number(matches, "base-ms", 1, 60_000)?;
@@ -127,12 +135,13 @@ fn cluster_settings<'a, A: Opening>(
 fn serve_settings<'a, A: Opening>(
     alloc: Global,
     matches: &ArgMatches<'a>,
+    given: Option<[u8; 32]>,
 ) -> Result<ServeSettings, UsageFault<'a>>
-    ensures some { IfOk result (λ s. SetsServe A.words.kinds A.meaning (rows_of (found_of matches.now)) s) }
-    ensures none { IfErr result (λ e. (s : ServeSettings) → SetsServe A.words.kinds A.meaning (rows_of (found_of matches.now)) s → WantsMemory e) }
-    ensures right { IfErr result (IsRightOf A.words.kinds A.meaning serve_options (rows_of (found_of matches.now))) }
+    ensures some { IfOk result (λ s. SetsServe A.words.kinds A.meaning given (rows_of (found_of matches.now)) s) }
+    ensures none { IfErr result (λ e. (s : ServeSettings) → SetsServe A.words.kinds A.meaning given (rows_of (found_of matches.now)) s → WantsMemory e) }
+    ensures right { IfErr result (IsRightOf A.words.kinds A.meaning given serve_options (rows_of (found_of matches.now))) }
 {
-    let cluster = cluster_settings::<A>(alloc, matches)?;
+    let cluster = cluster_settings::<A>(alloc, matches, given)?;
     let port = number(matches, "port", 0, 65_535)?;
     let http = optional_port(matches, "http")?;
     let sessions = number(matches, "sessions", 1, 1000)?;
@@ -150,23 +159,27 @@ fn serve_settings<'a, A: Opening>(
 fn audit_settings<'a, A: Opening>(
     alloc: Global,
     matches: &ArgMatches<'a>,
+    given: Option<[u8; 32]>,
 ) -> Result<AuditSettings, UsageFault<'a>>
-    ensures some { IfOk result (λ s. SetsAudit A.words.kinds (rows_of (found_of matches.now)) s) }
-    ensures none { IfErr result (λ e. (s : AuditSettings) → SetsAudit A.words.kinds (rows_of (found_of matches.now)) s → WantsMemory e) }
-    ensures right { (meaning : Meanings) → IfErr result (IsRightOf A.words.kinds meaning audit_options (rows_of (found_of matches.now))) }
+    ensures some { IfOk result (λ s. SetsAudit A.words.kinds given (rows_of (found_of matches.now)) s) }
+    ensures none { IfErr result (λ e. (s : AuditSettings) → SetsAudit A.words.kinds given (rows_of (found_of matches.now)) s → WantsMemory e) }
+    ensures right { (meaning : Meanings) → IfErr result (IsRightOf A.words.kinds meaning given audit_options (rows_of (found_of matches.now))) }
 {
-    let cluster = cluster::<A>(matches)?;
+    let cluster = cluster::<A>(matches, SeedWords::Digits, given)?;
     let receipt = receipt(alloc, matches)?;
     Ok(AuditSettings { cluster, receipt })
 }
 
 /// The settings of `abft draw`, from its matches.
-fn draw_settings<'a, A: Opening>(matches: &ArgMatches<'a>) -> Result<DrawSettings, UsageFault<'a>>
-    ensures some { IfOk result (λ s. SetsDraw A.words.kinds (rows_of (found_of matches.now)) s) }
-    ensures none { IfErr result (λ e. (s : DrawSettings) → SetsDraw A.words.kinds (rows_of (found_of matches.now)) s → WantsMemory e) }
-    ensures right { (meaning : Meanings) → IfErr result (IsRightOf A.words.kinds meaning draw_options (rows_of (found_of matches.now))) }
+fn draw_settings<'a, A: Opening>(
+    matches: &ArgMatches<'a>,
+    given: Option<[u8; 32]>,
+) -> Result<DrawSettings, UsageFault<'a>>
+    ensures some { IfOk result (λ s. SetsDraw A.words.kinds given (rows_of (found_of matches.now)) s) }
+    ensures none { IfErr result (λ e. (s : DrawSettings) → SetsDraw A.words.kinds given (rows_of (found_of matches.now)) s → WantsMemory e) }
+    ensures right { (meaning : Meanings) → IfErr result (IsRightOf A.words.kinds meaning given draw_options (rows_of (found_of matches.now))) }
 {
-    let cluster = cluster::<A>(matches)?;
+    let cluster = cluster::<A>(matches, SeedWords::Digits, given)?;
     let height = number(matches, "height", 0, 4096)?;
     let first = number(matches, "first", 0, 4_000_000_000)?;
     let last = number(matches, "last", 0, 4_000_000_000)?;
@@ -179,14 +192,14 @@ fn draw_settings<'a, A: Opening>(matches: &ArgMatches<'a>) -> Result<DrawSetting
 }
 
 /// The matches of the words, of which the first is the program's name.
-fn matches_of<'a, A: Opening>(
+pub(crate) fn matches_of<'a, A: Opening>(
     alloc: Global,
     words: &'a [&'a str],
 ) -> Result<ArgMatches<'a>, UsageFault<'a>>
     ensures found { IfOk result (λ m. subcommand_rows_of m ≡ subcommand_of (abft_app A.words) (map (λ w. w.now) words.entry.now)) }
     ensures refused { IfErr result (λ e. takes (abft_app A.words) (map (λ w. w.now) words.entry.now) ≡ true → WantsMemory e) }
     ensures taken { IfOk result (λ _. kinds_of A.words (map (λ w. w.now) words.entry.now) ≡ []) }
-    ensures right { (meaning : Meanings) → IfErr result (IsRightFault A.words meaning (map (λ w. w.now) words.entry.now)) }
+    ensures right { (meaning : Meanings) (given : Option (List ℕ)) → IfErr result (IsRightFault A.words meaning given (map (λ w. w.now) words.entry.now)) }
 {
     let command = abft_command::<A>(alloc)?;
     match command.try_get_matches_from(words) {
@@ -196,25 +209,26 @@ fn matches_of<'a, A: Opening>(
 }
 
 /// The settings of the subcommand in the matches.
-fn settings_of<'a, A: Opening>(
+pub(crate) fn settings_of<'a, A: Opening>(
     alloc: Global,
     matches: &ArgMatches<'a>,
+    given: Option<[u8; 32]>,
 ) -> Result<Settings, UsageFault<'a>>
-    ensures set { IfOk result (λ s. Sets A.words.kinds A.meaning (subcommand_rows_of matches.now) s) }
-    ensures refused { IfErr result (λ e. (s : Settings) → Sets A.words.kinds A.meaning (subcommand_rows_of matches.now) s → WantsMemory e) }
-    ensures right { IfErr result (IsRightIn A.words.kinds A.meaning (subcommand_rows_of matches.now)) }
+    ensures set { IfOk result (λ s. Sets A.words.kinds A.meaning given (subcommand_rows_of matches.now) s) }
+    ensures refused { IfErr result (λ e. (s : Settings) → Sets A.words.kinds A.meaning given (subcommand_rows_of matches.now) s → WantsMemory e) }
+    ensures right { IfErr result (IsRightIn A.words.kinds A.meaning given (subcommand_rows_of matches.now)) }
 {
     let Some((name, options)) = matches.subcommand() else {
         return Err(UsageFault::NoSubcommand);
     };
     match name {
-        "sign" => sign_settings::<A>(alloc, options).map(Settings::Sign),
-        "deliver" => deliver_settings::<A>(alloc, options).map(Settings::Deliver),
-        "simulate" => simulate_settings(options).map(Settings::Simulate),
-        "cluster" => cluster_settings::<A>(alloc, options).map(Settings::Cluster),
-        "serve" => serve_settings::<A>(alloc, options).map(Settings::Serve),
-        "audit" => audit_settings::<A>(alloc, options).map(Settings::Audit),
-        "draw" => draw_settings::<A>(options).map(Settings::Draw),
+        "sign" => sign_settings::<A>(alloc, options, given).map(Settings::Sign),
+        "deliver" => deliver_settings::<A>(alloc, options, given).map(Settings::Deliver),
+        "simulate" => simulate_settings(options, given).map(Settings::Simulate),
+        "cluster" => cluster_settings::<A>(alloc, options, given).map(Settings::Cluster),
+        "serve" => serve_settings::<A>(alloc, options, given).map(Settings::Serve),
+        "audit" => audit_settings::<A>(alloc, options, given).map(Settings::Audit),
+        "draw" => draw_settings::<A>(options, given).map(Settings::Draw),
         _ => Err(UsageFault::NoSubcommand),
     }
 }
@@ -222,20 +236,22 @@ fn settings_of<'a, A: Opening>(
 /// The settings that the words of a command line give. The first word is the program's name.
 ///
 /// Each option has the value that the words give it, or else its default, and is within its limits. An `Err` contains
-/// what is wrong, or the help that the words ask for.
+/// what is wrong, or the help that the words ask for. The caller gives the seed that was read from the file of `--seed-file` or drawn for
+/// `--seed random`, as [`seed_source`](crate::seed_source) says: without it such words have a fault. Other words don't use it.
 pub fn settings<'a, A: Opening>(
     alloc: Global,
     words: &'a [&'a str],
+    given: Option<[u8; 32]>,
 ) -> Result<Settings, UsageFault<'a>>
-    ensures set { IfOk result (λ s. IsSet A.words A.meaning (map (λ w. w.now) words.entry.now) s) }
+    ensures set { IfOk result (λ s. IsSet A.words A.meaning given (map (λ w. w.now) words.entry.now) s) }
     // The words have no fault, and ask for neither the help nor the version.
     ensures taken { IfOk result (λ _. kinds_of A.words (map (λ w. w.now) words.entry.now) ≡ []) }
     // Words that set something are refused only if memory runs out.
     ensures refused { IfErr result (λ e. takes (abft_app A.words) (map (λ w. w.now) words.entry.now) ≡ true
-        → (s : Settings) → IsSet A.words A.meaning (map (λ w. w.now) words.entry.now) s → WantsMemory e) }
+        → (s : Settings) → IsSet A.words A.meaning given (map (λ w. w.now) words.entry.now) s → WantsMemory e) }
     // What the fault says about the words is true.
-    ensures right { IfErr result (IsRightFault A.words A.meaning (map (λ w. w.now) words.entry.now)) }
+    ensures right { IfErr result (IsRightFault A.words A.meaning given (map (λ w. w.now) words.entry.now)) }
 {
     let matches = matches_of::<A>(alloc, words)?;
-    settings_of::<A>(alloc, &matches)
+    settings_of::<A>(alloc, &matches, given)
 }

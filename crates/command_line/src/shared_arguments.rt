@@ -19,7 +19,7 @@ pub(crate) const FAULTS: Argument = Argument {
 pub(crate) const APP_KIND: Argument = Argument {
     name: "kind",
     kind: Kind::Choice("1"),
-    help: "The application: 1 keys and values, 2 a counter, 3 a purse",
+    help: "The application: 1 or kvstore, keys and values; 2 or counter; 3 or purse",
 };
 
 /// The width of a digit of a signature.
@@ -43,11 +43,28 @@ pub(crate) const FRAMES: Argument = Argument {
     help: "The version of the frames, 1 or 2; with 2 a batch has up to 64 transactions, not 16",
 };
 
-/// The seed of all keys, which every subcommand has.
+/// The seed of all keys if the words give none. It is public.
+const DEFAULT_SEED: &str = "0000000000000000000000000000000000000000000000000000000000000000";
+
+/// The seed of all keys.
 pub(crate) const SEED: Argument = Argument {
     name: "seed",
-    kind: Kind::Value("0000000000000000000000000000000000000000000000000000000000000000"),
-    help: "The seed of all keys, 64 hexadecimal digits",
+    kind: Kind::Value(DEFAULT_SEED),
+    help: "The seed of all keys, 64 hexadecimal digits; every user of the machine can read it, by ps",
+};
+
+/// The seed of all keys of a cluster that runs.
+pub(crate) const SEED_OR_RANDOM: Argument = Argument {
+    name: "seed",
+    kind: Kind::Value(DEFAULT_SEED),
+    help: "The seed of all keys, 64 hexadecimal digits, which every user of the machine can read, by ps; or random: a new one, shown nowhere",
+};
+
+/// The file of the seed, which every subcommand has beside `--seed`.
+pub(crate) const SEED_FILE: Argument = Argument {
+    name: "seed-file",
+    kind: Kind::Optional,
+    help: "The file of the seed, in place of --seed: 64 hexadecimal digits, or 32 bytes",
 };
 
 /// The transaction of a run.

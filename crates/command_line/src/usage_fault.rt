@@ -2,6 +2,7 @@
 ghost use Rattle.std.specs.Prelude.{◌≡◌};
 ghost use Rattle.command_line.specs.declared.usage_fault.UsageFault.TheVariants.{NoMemory};
 
+use crate::seed_words::SeedWords;
 use clap::error::ErrorKind;
 use ledger_model::Tx;
 use plain_text::{ShownText, SpellingFault};
@@ -41,8 +42,17 @@ pub enum UsageFault<'a> {
         other: u32,
         word: &'a str,
     },
-    /// The word for `--seed` is not 64 hexadecimal digits.
-    Seed(&'a str),
+    /// The word for `--kind` is neither the number of an application nor its name.
+    Kind(&'a str),
+    /// The word for `--seed` is not what the subcommand takes for it.
+    Seed {
+        taken: SeedWords,
+        word: &'a str,
+    },
+    /// The word for `--seed-file` names no file with a seed: 64 hexadecimal digits, or 32 bytes.
+    SeedFile(&'a str),
+    /// The words contain `--seed` and `--seed-file`.
+    TwoSeeds,
     /// Fewer than `3 * faults + 1` replicas.
     TooFew {
         replicas: u8,
@@ -177,6 +187,19 @@ fn show_wanted<W: fmt::Write>(f: &mut fmt::Formatter<W>, wanted: &str, word: &st
     write!(f, "error: {wanted}, not '{word}'")
 }
 
+/// Writes what `--seed` takes, and the word that it got.
+fn show_seed<W: fmt::Write>(
+    f: &mut fmt::Formatter<W>,
+    taken: SeedWords,
+    word: &str,
+) -> fmt::Result {
+    let wanted = match taken {
+        SeedWords::Digits => "--seed is 64 hexadecimal digits",
+        SeedWords::DigitsOrRandom => "--seed is 64 hexadecimal digits or random",
+    };
+    show_wanted(f, wanted, word)
+}
+
 /// Writes what is wrong with an option.
 fn show_option<W: fmt::Write, D: fmt::Display>(
     f: &mut fmt::Formatter<W>,
@@ -224,7 +247,20 @@ impl fmt::Display for UsageFault<'_> {
                 other,
                 word,
             } => show_neither(f, option, *one, *other, word),
-            UsageFault::Seed(word) => show_wanted(f, "--seed is 64 hexadecimal digits", word),
+            UsageFault::Kind(word) => {
+                show_wanted(f, "--kind is 1, 2, 3, kvstore, counter or purse", word)
+            }
+            UsageFault::Seed { taken, word } => show_seed(f, *taken, word),
+            UsageFault::SeedFile(file) => {
+                show_wanted(
+                    f,
+                    "--seed-file is a file of 64 hexadecimal digits, or of 32 bytes",
+                    file,
+                )
+            }
+            UsageFault::TwoSeeds => {
+                f.write_str("error: the seed comes from --seed or from --seed-file, not from both")
+            }
             UsageFault::TooFew { replicas, faults } => show_too_few(f, *replicas, *faults),
             UsageFault::Spelling { option, fault } => show_option(f, option, fault),
             UsageFault::NoTransaction { option, word } => show_no_transaction(f, option, word),

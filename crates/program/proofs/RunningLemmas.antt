@@ -214,11 +214,11 @@ settled kinds meaning s x (Ok ending) status unread left before after mute told 
 settled kinds meaning s x (Err e) status unread left before after mute told same halted explains is =
     inr (is, subst (λ y. Halted kinds meaning y unread left before after) same halted)
 
-module _ (program : ProgramWords) (meaning : Meanings) (words : List (List ℕ)) (s : Settings) (set : IsSet program meaning words s) (taken : kinds_of program words ≡ [])
+module _ (program : ProgramWords) (meaning : Meanings) (given : Option (List ℕ)) (words : List (List ℕ)) (s : Settings) (set : IsSet program meaning given words s) (taken : kinds_of program words ≡ [])
     (status : ℕ)
     (unread left before after : Option (List ℕ)) where
   pub settled_finishes : (Q : Type 0) → Settled program.kinds meaning s status unread left before after Q → (status ≡ 0) ⊎ (status ≡ 1)
-      → Performs program meaning words status unread left before after
+      → Performs program meaning given words status unread left before after
   settled_finishes Q (inl (quiet, done)) small = record { settings = s; set = set; taken = taken; done = done }
   settled_finishes Q (inr (is, halted)) (inl zero) = absurd (omega (arith, zero, is))
   settled_finishes Q (inr (is, halted)) (inr one) = absurd (omega (arith, one, is))
@@ -231,7 +231,7 @@ module _ (program : ProgramWords) (meaning : Meanings) (words : List (List ℕ))
   settled_quiet mute told (inr (is, halted)) zero = absurd (omega (arith, zero, is))
 
   pub settled_explains : (mute told : Option (List ℕ)) → Settled program.kinds meaning s status unread left before after (IsQuiet s status mute told)
-      → status ≡ 1 → Keeps mute told ⊎ AsksForHistories program meaning words
+      → status ≡ 1 → Keeps mute told ⊎ AsksForHistories program meaning given words
   settled_explains mute told (inl (inl keeps, done)) one = inl keeps
   settled_explains mute told (inl (inr (is, follows), done)) one = inr (s, (set, follows))
   settled_explains mute told (inr (is, halted)) one = absurd (omega (arith, one, is))
@@ -242,7 +242,7 @@ module _ (program : ProgramWords) (meaning : Meanings) (words : List (List ℕ))
   settled_refuses Q P (inr (is, halted)) two = absurd (omega (arith, two, is))
 
   pub settled_stops : (Q : Type 0) → Settled program.kinds meaning s status unread left before after Q → status ≡ 3
-      → StartsRun program meaning words unread left before after
+      → StartsRun program meaning given words unread left before after
   settled_stops Q (inl (quiet, done)) three = let small =
       done_small program.kinds meaning s status unread left before after done in absurd (omega (arith, small, three))
   settled_stops Q (inr (is, halted)) three = record { settings = s; set = set; taken = taken; halted = halted }
@@ -263,7 +263,10 @@ asks_no_memory (fault.CommandLine error) (inl help) wants = let bad = sym help �
 asks_no_memory (fault.CommandLine error) (inr version) wants = let bad = sym version ∙ wants in absurd cc
 asks_no_memory (fault.Number option least most word) asks wants = asks
 asks_no_memory (fault.Neither option one other word) asks wants = asks
-asks_no_memory (fault.Seed word) asks wants = asks
+asks_no_memory (fault.Kind word) asks wants = asks
+asks_no_memory (fault.Seed taken word) asks wants = asks
+asks_no_memory (fault.SeedFile file) asks wants = asks
+asks_no_memory fault.TwoSeeds asks wants = asks
 asks_no_memory (fault.TooFew replicas faults) asks wants = asks
 asks_no_memory (fault.Spelling option why) asks wants = asks
 asks_no_memory (fault.NoTransaction option word) asks wants = asks
@@ -276,10 +279,10 @@ asks_no_memory (fault.Missing option) asks wants = asks
 asks_no_memory fault.NoSubcommand asks wants = asks
 asks_no_memory fault.NoMemory asks wants = asks
 
-module _ (program : ProgramWords) (meaning : Meanings) (words : List (List ℕ)) (f : UsageFault) (status : ℕ) (Q K : Type 0) (right : IsRightFault program meaning words f)
-    (refused : (WantsMemory f → ⊥) → IsRefused program meaning words) where
-  pub told_finishes : HelpOrFault f status Q K → (status ≡ 0) ⊎ (status ≡ 1) → IsRefused program meaning words × (AskForHelp program words × (status ≡ 0))
-  told_finishes (inl (asks, inl (zero, quiet))) small = (refused (asks_no_memory f asks), (asked program meaning words f right asks, zero))
+module _ (program : ProgramWords) (meaning : Meanings) (given : Option (List ℕ)) (words : List (List ℕ)) (f : UsageFault) (status : ℕ) (Q K : Type 0) (right : IsRightFault program meaning given words f)
+    (refused : (WantsMemory f → ⊥) → IsRefused program meaning given words) where
+  pub told_finishes : HelpOrFault f status Q K → (status ≡ 0) ⊎ (status ≡ 1) → IsRefused program meaning given words × (AskForHelp program words × (status ≡ 0))
+  told_finishes (inl (asks, inl (zero, quiet))) small = (refused (asks_no_memory f asks), (asked program meaning given words f right asks, zero))
   told_finishes (inl (asks, inr three)) (inl zero) = absurd (omega (arith, zero, three))
   told_finishes (inl (asks, inr three)) (inr one) = absurd (omega (arith, one, three))
   told_finishes (inr (kept, inl (two, enough))) (inl zero) = absurd (omega (arith, zero, two))
@@ -296,14 +299,14 @@ module _ (program : ProgramWords) (meaning : Meanings) (words : List (List ℕ))
   told_quiet (inr (kept, inr three)) (inl zero) = absurd (omega (arith, zero, three))
   told_quiet (inr (kept, inr three)) (inr one) = absurd (omega (arith, one, three))
 
-  pub told_refuses : HelpOrFault f status Q K → status ≡ 2 → IsRefused program meaning words × ((AskForHelpAlone program words → ⊥) × K)
+  pub told_refuses : HelpOrFault f status Q K → status ≡ 2 → IsRefused program meaning given words × ((AskForHelpAlone program words → ⊥) × K)
   told_refuses (inl (asks, inl (zero, quiet))) is = absurd (omega (arith, is, zero))
   told_refuses (inl (asks, inr three)) is = absurd (omega (arith, is, three))
-  told_refuses (inr ((other, kept), inl (two, enough))) is = (refused enough, (not_alone program meaning words f right other enough, kept))
+  told_refuses (inr ((other, kept), inl (two, enough))) is = (refused enough, (not_alone program meaning given words f right other enough, kept))
   told_refuses (inr (kept, inr three)) is = absurd (omega (arith, is, three))
 
-  pub told_stops : HelpOrFault f status Q K → status ≡ 3 → K ⊎ (IsRefused program meaning words × AskForHelp program words)
-  told_stops (inl (asks, told)) is = inr (refused (asks_no_memory f asks), asked program meaning words f right asks)
+  pub told_stops : HelpOrFault f status Q K → status ≡ 3 → K ⊎ (IsRefused program meaning given words × AskForHelp program words)
+  told_stops (inl (asks, told)) is = inr (refused (asks_no_memory f asks), asked program meaning given words f right asks)
   told_stops (inr ((other, kept), told)) is = inl kept
 
   pub told_known : HelpOrFault f status Q K → status ≤ 3

@@ -66,17 +66,17 @@ Halted kinds meaning (settings.Cluster s) unread left before after = ⊥
 Halted kinds meaning (settings.Serve s) unread left before after = ⊥
 
 -- settings that the words ask for were done, with this status
-pub record Performs (program : ProgramWords) (meaning : Meanings) (words : List (List ℕ)) (status : ℕ) (unread left before after : Option (List ℕ)) : Type 0 where
+pub record Performs (program : ProgramWords) (meaning : Meanings) (given : Option (List ℕ)) (words : List (List ℕ)) (status : ℕ) (unread left before after : Option (List ℕ)) : Type 0 where
   pub settings : Settings
-  pub set : IsSet program meaning words settings
+  pub set : IsSet program meaning given words settings
   -- the words have no fault, and ask for neither the help nor the version
   pub taken : kinds_of program words ≡ []
   pub done : Done program.kinds meaning settings status unread left before after
 
 -- settings that the words ask for were begun
-pub record StartsRun (program : ProgramWords) (meaning : Meanings) (words : List (List ℕ)) (unread left before after : Option (List ℕ)) : Type 0 where
+pub record StartsRun (program : ProgramWords) (meaning : Meanings) (given : Option (List ℕ)) (words : List (List ℕ)) (unread left before after : Option (List ℕ)) : Type 0 where
   pub settings : Settings
-  pub set : IsSet program meaning words settings
+  pub set : IsSet program meaning given words settings
   -- the words have no fault, and ask for neither the help nor the version
   pub taken : kinds_of program words ≡ []
   pub halted : Halted program.kinds meaning settings unread left before after
@@ -114,8 +114,8 @@ FollowsHistories (settings.Draw s) = ⊤
 FollowsHistories _ = ⊥
 
 -- the words ask for an audit or for a picture
-abbrev pub AsksForHistories : ProgramWords → Meanings → List (List ℕ) → Type 0
-AsksForHistories program meaning words = (s : Settings) × (IsSet program meaning words s × FollowsHistories s)
+abbrev pub AsksForHistories : ProgramWords → Meanings → Option (List ℕ) → List (List ℕ) → Type 0
+AsksForHistories program meaning given words = (s : Settings) × (IsSet program meaning given words s × FollowsHistories s)
 
 -- nothing is explained, but where histories were followed and the status is 1
 abbrev pub ExplainsHistories : Settings → Conclusion → Type 0

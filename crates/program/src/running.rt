@@ -34,44 +34,49 @@ use std::random::RandomSource;
 /// to `faults` what is wrong, and at 1 a sentence about a fault that an audit found. The random bytes of `source` are the keys of
 /// hashes. If the words ask for a running cluster, it does nothing and returns the settings. The replicas run the application `A`.
 ///
-/// No clause can speak of the real stdin and stdout. The contract holds for every reader and writer whose bytes a clause can name.
+/// The caller gives the seed of all keys where the words name a file for it or ask for a random one, as
+/// [`seed_source`](command_line::seed_source) says.
+///
+/// No clause can speak of the real stdin and stdout, nor of what a file has. The contract holds for every reader and writer whose bytes a
+/// clause can name, and for every seed that is given.
 pub fn run<A: Opening, S: RandomSource, R: Read, W: Write, F: Write>(
     source: &S,
     alloc: Global,
     words: &[&str],
+    given: Option<[u8; 32]>,
     reader: &mut R,
     writer: &mut W,
     faults: &mut F,
 ) -> Outcome
     // What the words ask for was done, or they ask only for the help or the version.
     ensures finishes { IfEnded result (λ status. (status ≡ 0) ⊎ (status ≡ 1)
-        → Performs A.words A.meaning (map (λ w. w.now) words.entry.now) status (R.remaining reader.old) (R.remaining reader.new)
+        → Performs A.words A.meaning given (map (λ w. w.now) words.entry.now) status (R.remaining reader.old) (R.remaining reader.new)
         (W.contents writer.old) (W.contents writer.new)
-        ⊎ (IsRefused A.words A.meaning (map (λ w. w.now) words.entry.now) × AskForHelp A.words (map (λ w. w.now) words.entry.now)
+        ⊎ (IsRefused A.words A.meaning given (map (λ w. w.now) words.entry.now) × AskForHelp A.words (map (λ w. w.now) words.entry.now)
         × (status ≡ 0) × Keeps (R.remaining reader.old) (R.remaining reader.new))) }
     ensures quiet { IfEnded result (λ status. status ≡ 0 → Keeps (F.contents faults.old) (F.contents faults.new)) }
     // Only an audit and a picture explain what is wrong with histories.
     ensures explains { IfEnded result (λ status. status ≡ 1
-        → Keeps (F.contents faults.old) (F.contents faults.new) ⊎ AsksForHistories A.words A.meaning (map (λ w. w.now) words.entry.now)) }
+        → Keeps (F.contents faults.old) (F.contents faults.new) ⊎ AsksForHistories A.words A.meaning given (map (λ w. w.now) words.entry.now)) }
     // The words are no command line, or set nothing, and don't ask for the help or the version.
-    ensures refuses { IfEnded result (λ status. status ≡ 2 → IsRefused A.words A.meaning (map (λ w. w.now) words.entry.now)
+    ensures refuses { IfEnded result (λ status. status ≡ 2 → IsRefused A.words A.meaning given (map (λ w. w.now) words.entry.now)
         × (AskForHelpAlone A.words (map (λ w. w.now) words.entry.now) → ⊥)
         × Keeps (R.remaining reader.old) (R.remaining reader.new) × Keeps (W.contents writer.old) (W.contents writer.new)) }
     // What the words ask for was begun, or nothing was, or the help or the version could not be written.
     ensures stops { IfEnded result (λ status. status ≡ 3
-        → StartsRun A.words A.meaning (map (λ w. w.now) words.entry.now) (R.remaining reader.old) (R.remaining reader.new) (W.contents writer.old)
+        → StartsRun A.words A.meaning given (map (λ w. w.now) words.entry.now) (R.remaining reader.old) (R.remaining reader.new) (W.contents writer.old)
         (W.contents writer.new)
         ⊎ (Keeps (R.remaining reader.old) (R.remaining reader.new)
         × (Keeps (W.contents writer.old) (W.contents writer.new)
-        ⊎ (IsRefused A.words A.meaning (map (λ w. w.now) words.entry.now) × AskForHelp A.words (map (λ w. w.now) words.entry.now))))) }
+        ⊎ (IsRefused A.words A.meaning given (map (λ w. w.now) words.entry.now) × AskForHelp A.words (map (λ w. w.now) words.entry.now))))) }
     ensures known { IfEnded result (λ status. status ≤ 3) }
     // The settings are those of the words, which have no fault, and no stream was touched.
-    ensures hands_back { IfHanded result (λ settings. IsSet A.words A.meaning (map (λ w. w.now) words.entry.now) settings
+    ensures hands_back { IfHanded result (λ settings. IsSet A.words A.meaning given (map (λ w. w.now) words.entry.now) settings
         × Keeps (R.remaining reader.old) (R.remaining reader.new) × Keeps (W.contents writer.old) (W.contents writer.new)
         × Keeps (F.contents faults.old) (F.contents faults.new)
         × (kinds_of A.words (map (λ w. w.now) words.entry.now) ≡ [])) }
 {
-    match settings::<A>(alloc, words) {
+    match settings::<A>(alloc, words, given) {
         Ok(settings) => run_settings::<A, S, R, W, F>(
             source, alloc, settings, reader, writer, faults,
         ),

@@ -39,7 +39,7 @@ fn the_words_of_audit_set_each_option(rt: HostRuntime) {
 
 /// Whether the word is refused as no receipt.
 fn is_no_receipt(alloc: Global, word: &str) -> bool {
-    match settings::<AnyKind>(alloc, &["abft", "audit", "--receipt", word]) {
+    match settings::<AnyKind>(alloc, &["abft", "audit", "--receipt", word], None) {
         Err(UsageFault::Receipt(told)) => told == word,
         _ => false,
     }

@@ -18,6 +18,7 @@ fn outcome_of<S: RandomSource>(
         source,
         alloc,
         words,
+        None,
         &mut Source::new(b"", true),
         output,
         faults,

@@ -18,6 +18,8 @@ mod running_words;
 #[cfg(test)]
 mod scenario_tests;
 #[cfg(test)]
+mod seed_tests;
+#[cfg(test)]
 mod setting_lines;
 #[cfg(test)]
 mod setting_tests;

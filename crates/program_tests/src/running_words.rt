@@ -27,6 +27,22 @@ fn the_words_of_cluster_and_serve_set_each_option(rt: HostRuntime) {
             "4 1 KvStore W4 32 One 0 [97, 61, 49] 40 200 Off false None",
         ),
         (
+            "abft cluster --no-empty-blocks --stop-at-eof",
+            "4 1 KvStore W4 32 One 0 [97, 61, 49] 40 200 Info true sparing None",
+        ),
+        (
+            "abft cluster --steady",
+            "4 1 KvStore W4 32 One 0 [97, 61, 49] 40 200 Info false steady None",
+        ),
+        (
+            "abft serve --no-empty-blocks",
+            "4 1 KvStore W4 32 One 0 [97, 61, 49] 40 200 Info false sparing None, 0 None 1 32768",
+        ),
+        (
+            "abft cluster --kind kv",
+            "error: --kind is 1, 2, 3, kvstore, counter or purse, not 'kv'",
+        ),
+        (
             "abft serve",
             "4 1 KvStore W4 32 One 0 [97, 61, 49] 40 200 Info false None, 0 None 1 32768",
         ),

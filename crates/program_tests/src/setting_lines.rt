@@ -24,8 +24,14 @@ fn running_line(alloc: Global, running: &ClusterSettings) -> Result<String, Allo
     let cluster = cluster_line(alloc, &running.cluster)?;
     let tx = running.tx.as_bytes();
     let histories = &running.histories;
+    let blocks = if running.creates_empty_blocks {
+        ""
+    } else {
+        " sparing"
+    };
+    let pace = if running.is_steady { " steady" } else { "" };
     format!(in alloc;
-        "{cluster} {tx:?} {} {} {:?} {} {histories:?}",
+        "{cluster} {tx:?} {} {} {:?} {}{blocks}{pace} {histories:?}",
         running.rounds, running.base_ms, running.log, running.stops_at_eof
     )
 }
@@ -55,9 +61,13 @@ fn audit_line(alloc: Global, audit: &AuditSettings) -> Result<String, AllocError
     format!(in alloc; "{cluster}, {receipt}")
 }
 
-/// The settings that the words give, as a line, or what is wrong with them.
-fn settings_line(alloc: Global, words: &[&str]) -> Result<String, AllocError> {
-    match settings::<AnyKind>(alloc, words) {
+/// The settings that the words give with a seed, as a line, or what is wrong with them.
+fn settings_line(
+    alloc: Global,
+    words: &[&str],
+    given: Option<[u8; 32]>,
+) -> Result<String, AllocError> {
+    match settings::<AnyKind>(alloc, words, given) {
         Ok(Settings::Cluster(running)) => running_line(alloc, &running),
         Ok(Settings::Serve(serve)) => serving_line(alloc, &serve),
         Ok(Settings::Audit(audit)) => audit_line(alloc, &audit),
@@ -66,19 +76,24 @@ fn settings_line(alloc: Global, words: &[&str]) -> Result<String, AllocError> {
     }
 }
 
-/// Whether the words give these settings, or have this fault.
-fn sets(alloc: Global, words: &[&str], text: &str) -> bool {
-    match settings_line(alloc, words) {
+/// Whether the words give these settings with a seed, or have this fault.
+fn sets(alloc: Global, words: &[&str], given: Option<[u8; 32]>, text: &str) -> bool {
+    match settings_line(alloc, words, given) {
         Ok(line) => line.as_str() == text,
+        Err(_) => false,
+    }
+}
+
+/// Whether the words of a line give these settings with a seed, or have this fault.
+pub(crate) fn is_set_with(alloc: Global, line: &str, given: Option<[u8; 32]>, text: &str) -> bool {
+    let words: Result<Vec<&str>, AllocError> = line.split(' ').collect(alloc);
+    match words {
+        Ok(words) => sets(alloc, &words, given, text),
         Err(_) => false,
     }
 }
 
 /// Whether the words of a line give these settings, or have this fault.
 pub(crate) fn is_set_by(alloc: Global, line: &str, text: &str) -> bool {
-    let words: Result<Vec<&str>, AllocError> = line.split(' ').collect(alloc);
-    match words {
-        Ok(words) => sets(alloc, &words, text),
-        Err(_) => false,
-    }
+    is_set_with(alloc, line, None, text)
 }

@@ -8,7 +8,7 @@ use std::alloc::Global;
 
 /// The settings that the words give, if they give any. It has no `ensures`, which keeps clap out of the tests' proofs.
 fn set(alloc: Global, words: &[&str]) -> Option<Settings> {
-    settings::<AnyKind>(alloc, words).ok()
+    settings::<AnyKind>(alloc, words, None).ok()
 }
 
 /// The application of the cluster of `abft sign`.
@@ -19,20 +19,25 @@ fn kind_in(settings: &Settings) -> Option<AppKind> {
     }
 }
 
-/// The application with this number, if there is one.
+/// The application with this number or name, if there is one.
 fn kind_of(alloc: Global, word: &str) -> Option<AppKind> {
     let settings = set(alloc, &["abft", "sign", "ack", "--kind", word])?;
     kind_in(&settings)
 }
 
 #[test]
-fn a_kind_is_named_by_its_number(rt: HostRuntime) {
+fn a_kind_is_chosen_by_its_number_or_its_name(rt: HostRuntime) {
     for &(word, kind) in &[
         ("1", Some(AppKind::KvStore)),
         ("02", Some(AppKind::Counter)),
         ("3", Some(AppKind::Purse)),
+        ("kvstore", Some(AppKind::KvStore)),
+        ("counter", Some(AppKind::Counter)),
+        ("purse", Some(AppKind::Purse)),
         ("0", None),
         ("4", None),
+        ("own", None),
+        ("Purse", None),
     ] {
         assert!(rt; kind_of(rt.alloc(), word) == kind, "at '{word}'");
     }

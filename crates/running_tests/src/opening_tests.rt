@@ -1,5 +1,5 @@
 //! When running replicas open the next height, and how many signatures that costs.
-ghost use Rattle.std.specs.Prelude.{◌≡◌};
+ghost use Rattle.std.specs.Prelude.{◌≡◌, ◌<◌};
 
 use crate::quiet_clock::QuietClock;
 use crate::replicas::{four, plan, replicas};

@@ -4,5 +4,6 @@
 #![tactic(auto)]
 
 mod process;
+mod seed_file;
 
 pub use process::{StandardStreams, run_process};

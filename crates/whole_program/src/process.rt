@@ -1,4 +1,5 @@
 //! Runs a program on the words and streams of its process, and returns the exit status.
+use crate::seed_file::{given_seed, stop};
 use app_states::Opening;
 use byte_streams::{ProgramFault, Resource, require_open};
 use cluster_reports::{SharedStatus, Watcher, start_reporter};
@@ -48,13 +49,24 @@ where
     let alloc = rt.alloc();
     match run_words::<A, R>(rt, alloc, streams) {
         Ok(Outcome::Ended(status)) => status,
-        Ok(Outcome::Cluster(settings)) => watch_cluster::<A, R>(rt, alloc, &settings, streams),
-        Ok(Outcome::Serve(settings)) => watch_server::<A, R>(rt, alloc, &settings, streams),
+        Ok(Outcome::Cluster(mut settings)) => {
+            end_at_terminal(&mut settings, &streams);
+            watch_cluster::<A, R>(rt, alloc, &settings, streams)
+        }
+        Ok(Outcome::Serve(mut settings)) => {
+            end_at_terminal(&mut settings.cluster, &streams);
+            watch_server::<A, R>(rt, alloc, &settings, streams)
+        }
         Err(error) => {
             let mut faults = streams.errors;
             refuse_words(alloc, error, &mut faults)
         }
     }
+}
+
+/// Lets a cluster end with standard input if that is a terminal, where a person ends it by Ctrl-D.
+fn end_at_terminal(settings: &mut ClusterSettings, streams: &StandardStreams) {
+    settings.stops_at_eof = settings.stops_at_eof || streams.input.is_terminal();
 }
 
 /// The subcommand `cluster`, with a reporter that writes to standard error. Returns the exit status.
@@ -221,16 +233,29 @@ where
     Ok(ended)
 }
 
-/// Does what the words of the process ask for, unless that takes threads. An `Err` means that the words could not be read.
-fn run_words<A: Opening, R: AllocGlobal + Env + RandomSource>(
+/// Does what the words of the process ask for, unless that takes threads. The seed of all keys is read or drawn first, if it isn't in the
+/// words. An `Err` means that the words could not be read.
+fn run_words<A: Opening, R: AllocGlobal + Env + Files + RandomSource>(
     rt: &R,
     alloc: Global,
     streams: StandardStreams,
 ) -> io::Result<Outcome> {
     let words: Vec<String> = env::args(rt)?.collect(alloc)?;
     let words: Vec<&str> = words.iter().map(|word| word.as_str()).collect(alloc)?;
+    let mut faults = streams.errors;
+    let given = match given_seed::<A, _, _>(rt, alloc, &words, &mut faults) {
+        Ok(given) => given,
+        Err(fault) => return Ok(Outcome::Ended(stop(alloc, &fault, &mut faults))),
+    };
     let mut reader = streams.input.lock();
     let mut writer = streams.output;
-    let mut faults = streams.errors;
-    Ok(run::<A, _, _, _, _>(rt, alloc, &words, &mut reader, &mut writer, &mut faults))
+    Ok(run::<A, _, _, _, _>(
+        rt,
+        alloc,
+        &words,
+        given,
+        &mut reader,
+        &mut writer,
+        &mut faults,
+    ))
 }

@@ -21,7 +21,7 @@ returns-then-code-ne0-clause-none g c = λ tx i.
     c.if-code-ne0.true (c.check_code-code.ensures ∙ ap (check_reply (g.A.Application.meaning) c.args.kind []) (sym same) ∙ i.checked)
 
 pub returns-then-code-ne0-clause-right : goal.returns-then-code-ne0-clause-right
-returns-then-code-ne0-clause-right g c = λ table takes chosen. (
+returns-then-code-ne0-clause-right g c = λ given table takes chosen. (
   takes,
   record {
     has = c.in_ok-word.ensures.some;
@@ -36,12 +36,12 @@ returns-then-code-ne0-clause-right g c = λ table takes chosen. (
 
 pub returns-in_err-word-clause-right : goal.returns-in_err-word-clause-right
 returns-in_err-word-clause-right g c =
-    λ table takes chosen. passed_up _ c.in_err-word.field-0.0
-    (IsRightOf (g.A.Opening.words.kinds) (g.A.Application.meaning) table (rows_of (found_of c.args.matches.now)))
-    c.from_residual.ensures.1 (c.in_err-word.ensures.right (g.A.Opening.words.kinds) (g.A.Application.meaning) table takes.0)
+    λ given table takes chosen. passed_up _ c.in_err-word.field-0.0
+    (IsRightOf (g.A.Opening.words.kinds) (g.A.Application.meaning) given table (rows_of (found_of c.args.matches.now)))
+    c.from_residual.ensures.1 (c.in_err-word.ensures.right (g.A.Opening.words.kinds) (g.A.Application.meaning) given table takes.0)
 
 pub returns-in_err-tx-clause-right : goal.returns-in_err-tx-clause-right
 returns-in_err-tx-clause-right g c =
-    λ table takes chosen. passed_up _ c.in_err-tx.field-0.0 (IsRightOf (g.A.Opening.words.kinds) (g.A.Application.meaning) table
+    λ given table takes chosen. passed_up _ c.in_err-tx.field-0.0 (IsRightOf (g.A.Opening.words.kinds) (g.A.Application.meaning) given table
     (rows_of (found_of c.args.matches.now)))
-    c.from_residual-in_err-tx.ensures.1 (c.in_err-tx.ensures.right (g.A.Opening.words.kinds) (g.A.Application.meaning) table takes)
+    c.from_residual-in_err-tx.ensures.1 (c.in_err-tx.ensures.right (g.A.Opening.words.kinds) (g.A.Application.meaning) given table takes)

@@ -15,6 +15,6 @@ returns-in_err-number-clause-none c =
 
 pub returns-in_err-number-clause-right : goal.returns-in_err-number-clause-right
 returns-in_err-number-clause-right c =
-    λ kinds meaning table has. passed_up _ c.in_err-number.field-0.0
-    (IsRightOf kinds meaning table (rows_of (found_of c.args.matches.now))) c.from_residual.ensures.1
-    (c.in_err-number.ensures.right kinds meaning table has)
+    λ kinds meaning given table has. passed_up _ c.in_err-number.field-0.0
+    (IsRightOf kinds meaning given table (rows_of (found_of c.args.matches.now))) c.from_residual.ensures.1
+    (c.in_err-number.ensures.right kinds meaning given table has)

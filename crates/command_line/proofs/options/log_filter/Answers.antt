@@ -5,5 +5,5 @@ use Rattle.command_line.proofs.options.log_filter.Goals as goal
 
 pub returns-in_err-word-clause-right : goal.returns-in_err-word-clause-right
 returns-in_err-word-clause-right c =
-    λ kinds meaning table has. passed_up _ c.in_err-word.field-0.0 (IsRightOf kinds meaning table (rows_of (found_of c.args.matches.now)))
-    c.from_residual.ensures.1 (c.in_err-word.ensures.right kinds meaning table has)
+    λ kinds meaning given table has. passed_up _ c.in_err-word.field-0.0 (IsRightOf kinds meaning given table (rows_of (found_of c.args.matches.now)))
+    c.from_residual.ensures.1 (c.in_err-word.ensures.right kinds meaning given table has)

@@ -9,9 +9,9 @@ returns-in_default-clause-none c = search rules
 
 pub returns-in_err-text-clause-right : goal.returns-in_err-text-clause-right
 returns-in_err-text-clause-right c =
-    λ kinds meaning table has. passed_up _ c.in_err-text.field-0.0
-    (IsRightOf kinds meaning table (rows_of (found_of c.args.matches.now))) c.from_residual.ensures.1
-    (c.in_err-text.ensures.right kinds meaning table has.0)
+    λ kinds meaning given table has. passed_up _ c.in_err-text.field-0.0
+    (IsRightOf kinds meaning given table (rows_of (found_of c.args.matches.now))) c.from_residual.ensures.1
+    (c.in_err-text.ensures.right kinds meaning given table has.0)
 
 pub returns-in_default-clause-right : goal.returns-in_default-clause-right
-returns-in_default-clause-right c = λ kinds meaning table has. (has, (c.in_ok-text.ensures.some, returns-in_default-clause-none c))
+returns-in_default-clause-right c = λ kinds meaning given table has. (has, (c.in_ok-text.ensures.some, returns-in_default-clause-none c))

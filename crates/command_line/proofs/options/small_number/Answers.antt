@@ -16,6 +16,6 @@ returns-clause-some c = search rules
 
 pub returns-in_err-number-clause-right : goal.returns-in_err-number-clause-right
 returns-in_err-number-clause-right c =
-    λ kinds meaning table has. passed_up _ c.in_err-number.field-0.0
-    (IsRightOf kinds meaning table (rows_of (found_of c.args.matches.now))) c.from_residual.ensures.1
-    (c.in_err-number.ensures.right kinds meaning table (rw (c.from.ensures, c.from-2.ensures) has))
+    λ kinds meaning given table has. passed_up _ c.in_err-number.field-0.0
+    (IsRightOf kinds meaning given table (rows_of (found_of c.args.matches.now))) c.from_residual.ensures.1
+    (c.in_err-number.ensures.right kinds meaning given table (rw (c.from.ensures, c.from-2.ensures) has))

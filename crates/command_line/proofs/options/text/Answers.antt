@@ -8,4 +8,4 @@ pub returns-in-None-clause-none : goal.returns-in-None-clause-none
 returns-in-None-clause-none c = sym c.in-None.ensures
 
 pub returns-in-None-clause-right : goal.returns-in-None-clause-right
-returns-in-None-clause-right c = λ kinds meaning table has. (has, sym c.in-None.ensures)
+returns-in-None-clause-right c = λ kinds meaning given table has. (has, sym c.in-None.ensures)

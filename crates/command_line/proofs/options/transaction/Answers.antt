@@ -27,7 +27,7 @@ returns-in_default-clause-right c =
     let text : List ℕ = c.in_ok-text.text.now in
     let bytes : List ℕ = c.in_ok-bytes.bytes.items in
     let none = returns-in_default-clause-none c bytes in
-    λ kinds meaning table has. (
+    λ kinds meaning given table has. (
       has,
       record {
         has = c.in_ok-text.ensures.some;
@@ -51,12 +51,12 @@ returns-in_default-clause-right c =
 
 pub returns-in_err-text-clause-right : goal.returns-in_err-text-clause-right
 returns-in_err-text-clause-right c =
-    λ kinds meaning table has. passed_up _ c.in_err-text.field-0.0
-    (IsRightOf kinds meaning table (rows_of (found_of c.args.matches.now))) c.from_residual.ensures.1
-    (c.in_err-text.ensures.right kinds meaning table has.0)
+    λ kinds meaning given table has. passed_up _ c.in_err-text.field-0.0
+    (IsRightOf kinds meaning given table (rows_of (found_of c.args.matches.now))) c.from_residual.ensures.1
+    (c.in_err-text.ensures.right kinds meaning given table has.0)
 
 pub returns-in_err-bytes-clause-right : goal.returns-in_err-bytes-clause-right
 returns-in_err-bytes-clause-right c =
-    λ kinds meaning table has. passed_up _ c.in_err-bytes.field-0.0 (IsRightOf kinds meaning table (rows_of (found_of c.args.matches.now)))
+    λ kinds meaning given table has. passed_up _ c.in_err-bytes.field-0.0 (IsRightOf kinds meaning given table (rows_of (found_of c.args.matches.now)))
     c.from_residual-in_err-bytes.ensures.1
-    (c.in_err-bytes.ensures.right kinds meaning table has (rows_of (found_of c.args.matches.now)) c.in_ok-text.ensures.some)
+    (c.in_err-bytes.ensures.right kinds meaning given table has (rows_of (found_of c.args.matches.now)) c.in_ok-text.ensures.some)

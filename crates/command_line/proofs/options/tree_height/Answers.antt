@@ -25,13 +25,13 @@ returns-in_default-clause-none c =
 
 pub returns-in_default-clause-right : goal.returns-in_default-clause-right
 returns-in_default-clause-right c =
-    λ kinds meaning table has. (
+    λ kinds meaning given table has. (
       (has, inr (refl, refl, refl)),
       (c.in_ok-word.ensures.some, (returns-in_default-clause-none c H5, returns-in_default-clause-none c H10)),
     )
 
 pub returns-in_err-word-clause-right : goal.returns-in_err-word-clause-right
 returns-in_err-word-clause-right c =
-    λ kinds meaning table has. passed_up _ c.in_err-word.field-0.0
-    (IsRightOf kinds meaning table (rows_of (found_of c.args.matches.now))) c.from_residual.ensures.1
-    (c.in_err-word.ensures.right kinds meaning table has)
+    λ kinds meaning given table has. passed_up _ c.in_err-word.field-0.0
+    (IsRightOf kinds meaning given table (rows_of (found_of c.args.matches.now))) c.from_residual.ensures.1
+    (c.in_err-word.ensures.right kinds meaning given table has)

@@ -17,8 +17,8 @@ returns-in_err-spelled-in-Some-clause-none c =
     c.in_err-spelled-in-Some.ensures.none set.0 set.1)
 
 pub returns-in_err-spelled-in-Some-clause-right : goal.returns-in_err-spelled-in-Some-clause-right
-returns-in_err-spelled-in-Some-clause-right c = λ kinds meaning table has.
-    passed_up _ c.in_err-spelled-in-Some.field-0.0 (IsRightOf kinds meaning table (rows_of (found_of c.args.matches.now)))
+returns-in_err-spelled-in-Some-clause-right c = λ kinds meaning given table has.
+    passed_up _ c.in_err-spelled-in-Some.field-0.0 (IsRightOf kinds meaning given table (rows_of (found_of c.args.matches.now)))
     c.from_residual.ensures.1
-    (receipt_right kinds meaning table (rows_of (found_of c.args.matches.now)) c.in-Some.text c.in_err-spelled-in-Some.field-0.0 has
+    (receipt_right kinds meaning given table (rows_of (found_of c.args.matches.now)) c.in-Some.text c.in_err-spelled-in-Some.field-0.0 has
     (sym c.in-Some.ensures) c.in_err-spelled-in-Some.ensures.none c.in_err-spelled-in-Some.ensures.told)

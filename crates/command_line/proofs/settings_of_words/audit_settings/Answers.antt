@@ -10,16 +10,16 @@ use Rattle.command_line.proofs.settings_of_words.audit_settings.Goals as goal
 pub returns-in_err-receipt-clause-none : goal.returns-in_err-receipt-clause-none
 returns-in_err-receipt-clause-none g c =
     passed_up _ c.in_err-receipt.field-0.0
-    (λ e. (s : AuditSettings) → SetsAudit (g.A.Opening.words.kinds) (rows_of (found_of c.args.matches.now)) s → WantsMemory e)
+    (λ e. (s : AuditSettings) → SetsAudit (g.A.Opening.words.kinds) c.args.given (rows_of (found_of c.args.matches.now)) s → WantsMemory e)
     c.from_residual-in_err-receipt.ensures.1 (λ s i. c.in_err-receipt.ensures.none s.receipt i.receipt)
 
 pub returns-in_err-cluster-clause-right : goal.returns-in_err-cluster-clause-right
 returns-in_err-cluster-clause-right g c =
-    λ meaning. passed_up _ c.in_err-cluster.field-0.0 (IsRightOf (g.A.Opening.words.kinds) meaning audit_options (rows_of (found_of c.args.matches.now)))
+    λ meaning. passed_up _ c.in_err-cluster.field-0.0 (IsRightOf (g.A.Opening.words.kinds) meaning c.args.given audit_options (rows_of (found_of c.args.matches.now)))
     c.from_residual.ensures.1
-    (c.in_err-cluster.ensures.right meaning audit_options (has_cluster _ _ _ _))
+    (c.in_err-cluster.ensures.right meaning audit_options (has_cluster _ _ _ _ _))
 
 pub returns-in_err-receipt-clause-right : goal.returns-in_err-receipt-clause-right
 returns-in_err-receipt-clause-right g c =
-    λ meaning. passed_up _ c.in_err-receipt.field-0.0 (IsRightOf (g.A.Opening.words.kinds) meaning audit_options (rows_of (found_of c.args.matches.now)))
-    c.from_residual-in_err-receipt.ensures.1 (c.in_err-receipt.ensures.right (g.A.Opening.words.kinds) meaning audit_options refl)
+    λ meaning. passed_up _ c.in_err-receipt.field-0.0 (IsRightOf (g.A.Opening.words.kinds) meaning c.args.given audit_options (rows_of (found_of c.args.matches.now)))
+    c.from_residual-in_err-receipt.ensures.1 (c.in_err-receipt.ensures.right (g.A.Opening.words.kinds) meaning c.args.given audit_options refl)

@@ -3,7 +3,8 @@ use Rattle.std.proofs.Common.{refl, inl, codes, subst}
 use Rattle.command_line.specs.Faults.{IsRightOf}
 use Rattle.clap.specs.Words.{found_of, rows_of}
 use Rattle.cluster_setup.specs.declared.deliver_settings.DeliverSettings.{DeliverSettings}
-use Rattle.command_line.proofs.NumberLemmas.{same_kind, same_limit}
+use Rattle.command_line.proofs.KindLemmas.{same_kind}
+use Rattle.command_line.proofs.NumberLemmas.{same_limit}
 use Rattle.command_line.proofs.MatchesLemmas.{none_set}
 use Rattle.clap.proofs.TakesLemmas.{passed_up}
 use Rattle.command_line.proofs.Tables.{has_cluster, takes_replica}
@@ -11,53 +12,53 @@ use Rattle.command_line.proofs.settings_of_words.deliver_settings.Goals as goal
 
 pub returns-in_err-replica-clause-none : goal.returns-in_err-replica-clause-none
 returns-in_err-replica-clause-none g c =
-    none_set (SetsDeliver (g.A.Opening.words.kinds) (g.A.Application.meaning) (rows_of (found_of c.args.matches.now))) WantsMemory _
+    none_set (SetsDeliver (g.A.Opening.words.kinds) (g.A.Application.meaning) c.args.given (rows_of (found_of c.args.matches.now))) WantsMemory _
     (λ s i. c.in_err-replica.ensures.none s.replica
     (same_limit _ _ _ _ i.cluster.n c.in_ok-cluster.ensures.some.n i.replica))
 
 pub returns-in_err-height-clause-none : goal.returns-in_err-height-clause-none
 returns-in_err-height-clause-none g c =
-    none_set (SetsDeliver (g.A.Opening.words.kinds) (g.A.Application.meaning) (rows_of (found_of c.args.matches.now))) WantsMemory _
+    none_set (SetsDeliver (g.A.Opening.words.kinds) (g.A.Application.meaning) c.args.given (rows_of (found_of c.args.matches.now))) WantsMemory _
     (λ s i. c.in_err-height.ensures.none s.height i.height)
 
 pub returns-in_err-rounds-clause-none : goal.returns-in_err-rounds-clause-none
 returns-in_err-rounds-clause-none g c =
-    none_set (SetsDeliver (g.A.Opening.words.kinds) (g.A.Application.meaning) (rows_of (found_of c.args.matches.now))) WantsMemory _
+    none_set (SetsDeliver (g.A.Opening.words.kinds) (g.A.Application.meaning) c.args.given (rows_of (found_of c.args.matches.now))) WantsMemory _
     (λ s i. c.in_err-rounds.ensures.none s.rounds i.rounds)
 
 pub returns-in_err-value-clause-none : goal.returns-in_err-value-clause-none
 returns-in_err-value-clause-none g c =
     passed_up _ c.in_err-value.field-0.0
-    (λ e. (s : DeliverSettings) → SetsDeliver (g.A.Opening.words.kinds) (g.A.Application.meaning) (rows_of (found_of c.args.matches.now)) s → WantsMemory e)
+    (λ e. (s : DeliverSettings) → SetsDeliver (g.A.Opening.words.kinds) (g.A.Application.meaning) c.args.given (rows_of (found_of c.args.matches.now)) s → WantsMemory e)
     c.from_residual-in_err-value.ensures.1 (λ s i.
     c.in_err-value.ensures.none s.value
     (subst (λ k. IsAccepted (g.A.Application.meaning) (rows_of (found_of c.args.matches.now)) (codes "value") k s.value)
-    (same_kind (g.A.Opening.words.kinds) _ s.cluster c.in_ok-cluster.cluster i.cluster c.in_ok-cluster.ensures.some) i.value))
+    (same_kind (g.A.Opening.words.kinds) _ _ _ s.cluster c.in_ok-cluster.cluster i.cluster c.in_ok-cluster.ensures.some) i.value))
 
 pub returns-in_err-cluster-clause-right : goal.returns-in_err-cluster-clause-right
 returns-in_err-cluster-clause-right g c =
-    passed_up _ c.in_err-cluster.field-0.0 (IsRightOf (g.A.Opening.words.kinds) (g.A.Application.meaning) deliver_options (rows_of (found_of c.args.matches.now)))
+    passed_up _ c.in_err-cluster.field-0.0 (IsRightOf (g.A.Opening.words.kinds) (g.A.Application.meaning) c.args.given deliver_options (rows_of (found_of c.args.matches.now)))
     c.from_residual.ensures.1
-    (c.in_err-cluster.ensures.right (g.A.Application.meaning) deliver_options (has_cluster _ _ _ _))
+    (c.in_err-cluster.ensures.right (g.A.Application.meaning) deliver_options (has_cluster _ _ _ _ _))
 
 pub returns-in_err-replica-clause-right : goal.returns-in_err-replica-clause-right
 returns-in_err-replica-clause-right g c =
-    passed_up _ c.in_err-replica.field-0.0 (IsRightOf (g.A.Opening.words.kinds) (g.A.Application.meaning) deliver_options (rows_of (found_of c.args.matches.now)))
+    passed_up _ c.in_err-replica.field-0.0 (IsRightOf (g.A.Opening.words.kinds) (g.A.Application.meaning) c.args.given deliver_options (rows_of (found_of c.args.matches.now)))
     c.from_residual-in_err-replica.ensures.1
-    (c.in_err-replica.ensures.right (g.A.Opening.words.kinds) (g.A.Application.meaning) deliver_options
+    (c.in_err-replica.ensures.right (g.A.Opening.words.kinds) (g.A.Application.meaning) c.args.given deliver_options
     (takes_replica (g.A.Opening.words.kinds) deliver_options _ _ refl c.in_ok-cluster.ensures.some.n))
 
 pub returns-in_err-value-clause-right : goal.returns-in_err-value-clause-right
 returns-in_err-value-clause-right g c =
-    passed_up _ c.in_err-value.field-0.0 (IsRightOf (g.A.Opening.words.kinds) (g.A.Application.meaning) deliver_options (rows_of (found_of c.args.matches.now)))
-    c.from_residual-in_err-value.ensures.1 (c.in_err-value.ensures.right deliver_options (refl, refl) c.in_ok-cluster.ensures.some.kind)
+    passed_up _ c.in_err-value.field-0.0 (IsRightOf (g.A.Opening.words.kinds) (g.A.Application.meaning) c.args.given deliver_options (rows_of (found_of c.args.matches.now)))
+    c.from_residual-in_err-value.ensures.1 (c.in_err-value.ensures.right c.args.given deliver_options (refl, refl) c.in_ok-cluster.ensures.some.kind)
 
 pub returns-in_err-height-clause-right : goal.returns-in_err-height-clause-right
 returns-in_err-height-clause-right g c =
-    passed_up _ c.in_err-height.field-0.0 (IsRightOf (g.A.Opening.words.kinds) (g.A.Application.meaning) deliver_options (rows_of (found_of c.args.matches.now)))
-    c.from_residual-in_err-height.ensures.1 (c.in_err-height.ensures.right (g.A.Opening.words.kinds) (g.A.Application.meaning) deliver_options (refl, inl refl))
+    passed_up _ c.in_err-height.field-0.0 (IsRightOf (g.A.Opening.words.kinds) (g.A.Application.meaning) c.args.given deliver_options (rows_of (found_of c.args.matches.now)))
+    c.from_residual-in_err-height.ensures.1 (c.in_err-height.ensures.right (g.A.Opening.words.kinds) (g.A.Application.meaning) c.args.given deliver_options (refl, inl refl))
 
 pub returns-in_err-rounds-clause-right : goal.returns-in_err-rounds-clause-right
 returns-in_err-rounds-clause-right g c =
-    passed_up _ c.in_err-rounds.field-0.0 (IsRightOf (g.A.Opening.words.kinds) (g.A.Application.meaning) deliver_options (rows_of (found_of c.args.matches.now)))
-    c.from_residual-in_err-rounds.ensures.1 (c.in_err-rounds.ensures.right (g.A.Opening.words.kinds) (g.A.Application.meaning) deliver_options (refl, inl refl))
+    passed_up _ c.in_err-rounds.field-0.0 (IsRightOf (g.A.Opening.words.kinds) (g.A.Application.meaning) c.args.given deliver_options (rows_of (found_of c.args.matches.now)))
+    c.from_residual-in_err-rounds.ensures.1 (c.in_err-rounds.ensures.right (g.A.Opening.words.kinds) (g.A.Application.meaning) c.args.given deliver_options (refl, inl refl))

@@ -29,7 +29,7 @@ returns-in-Err-clause-refused g c = λ taken.
 pub returns-in-Err-clause-right : goal.returns-in-Err-clause-right
 unfolding kinds_of
 returns-in-Err-clause-right g c =
-    λ meaning. refused_right (g.A.Opening.words) meaning (map (λ w. w.now) c.args.words.now) c.in-Err.error c.fault_of.result
+    λ meaning given. refused_right (g.A.Opening.words) meaning given (map (λ w. w.now) c.args.words.now) c.in-Err.error c.fault_of.result
     (subst (λ a. HasKind (fault_of a (map (λ w. w.now) c.args.words.now)) c.in-Err.error) c.in_ok-command.ensures
     (c.in-Err.ensures.kinds (ap is_simple_and_free c.in_ok-command.ensures ∙ abft_is_free (g.A.Opening.words))))
     (subst (λ name. (c.fault_of.result ≡ fault.CommandLine c.in-Err.error)

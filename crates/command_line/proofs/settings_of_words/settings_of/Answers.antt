@@ -16,8 +16,8 @@ returns-in-sign-clause-set g c =
     let rows : List Row = rows_of (found_of c.in-Some.options.now) in
     let found = found_is c.args.matches.now (codes "sign") rows (search (rules, c.in-sign.is, c.in-Some.ensures.name))
     c.in-Some.ensures.rows in
-    set_alike (g.A.Opening.words.kinds) (g.A.Application.meaning) (λ t s. s ≡ settings.Sign t) (SetsSign (g.A.Opening.words.kinds) rows) _ _ c.sign_settings.result c.map.result found
-    (λ t s is set. subst (λ x. Sets (g.A.Opening.words.kinds) (g.A.Application.meaning) (Some (codes "sign", rows)) x) (sym is) (refl, set))
+    set_alike (g.A.Opening.words.kinds) (g.A.Application.meaning) c.args.given (λ t s. s ≡ settings.Sign t) (SetsSign (g.A.Opening.words.kinds) c.args.given rows) _ _ c.sign_settings.result c.map.result found
+    (λ t s is set. subst (λ x. Sets (g.A.Opening.words.kinds) (g.A.Application.meaning) c.args.given (Some (codes "sign", rows)) x) (sym is) (refl, set))
     c.sign_settings.ensures.some
     c.map.ensures.cases
 
@@ -26,8 +26,8 @@ returns-in-sign-clause-refused g c =
     let rows : List Row = rows_of (found_of c.in-Some.options.now) in
     let found = found_is c.args.matches.now (codes "sign") rows (search (rules, c.in-sign.is, c.in-Some.ensures.name))
     c.in-Some.ensures.rows in
-    refused_alike (g.A.Opening.words.kinds) (g.A.Application.meaning) _ (SetsSign (g.A.Opening.words.kinds) rows) _ _ c.sign_settings.result c.map.result found
-    (λ e s. sets_sign (g.A.Opening.words.kinds) (g.A.Application.meaning) rows s) c.sign_settings.ensures.none
+    refused_alike (g.A.Opening.words.kinds) (g.A.Application.meaning) c.args.given _ (SetsSign (g.A.Opening.words.kinds) c.args.given rows) _ _ c.sign_settings.result c.map.result found
+    (λ e s. sets_sign (g.A.Opening.words.kinds) (g.A.Application.meaning) c.args.given rows s) c.sign_settings.ensures.none
     c.map.ensures.cases
 
 pub returns-in-deliver-clause-set : goal.returns-in-deliver-clause-set
@@ -35,9 +35,9 @@ returns-in-deliver-clause-set g c =
     let rows : List Row = rows_of (found_of c.in-Some.options.now) in
     let found = found_is c.args.matches.now (codes "deliver") rows (search (rules, c.in-deliver.is, c.in-Some.ensures.name))
     c.in-Some.ensures.rows in
-    set_alike (g.A.Opening.words.kinds) (g.A.Application.meaning) (λ t s. s ≡ settings.Deliver t)
-    (SetsDeliver (g.A.Opening.words.kinds) (g.A.Application.meaning) rows) _ _ c.deliver_settings.result c.map-in-deliver.result found
-    (λ t s is set. subst (λ x. Sets (g.A.Opening.words.kinds) (g.A.Application.meaning) (Some (codes "deliver", rows)) x) (sym is) (refl, set))
+    set_alike (g.A.Opening.words.kinds) (g.A.Application.meaning) c.args.given (λ t s. s ≡ settings.Deliver t)
+    (SetsDeliver (g.A.Opening.words.kinds) (g.A.Application.meaning) c.args.given rows) _ _ c.deliver_settings.result c.map-in-deliver.result found
+    (λ t s is set. subst (λ x. Sets (g.A.Opening.words.kinds) (g.A.Application.meaning) c.args.given (Some (codes "deliver", rows)) x) (sym is) (refl, set))
     c.deliver_settings.ensures.some
     c.map-in-deliver.ensures.cases
 
@@ -46,8 +46,8 @@ returns-in-deliver-clause-refused g c =
     let rows : List Row = rows_of (found_of c.in-Some.options.now) in
     let found = found_is c.args.matches.now (codes "deliver") rows (search (rules, c.in-deliver.is, c.in-Some.ensures.name))
     c.in-Some.ensures.rows in
-    refused_alike (g.A.Opening.words.kinds) (g.A.Application.meaning) _ (SetsDeliver (g.A.Opening.words.kinds) (g.A.Application.meaning) rows) _ _ c.deliver_settings.result
-    c.map-in-deliver.result found (λ e s. sets_deliver (g.A.Opening.words.kinds) (g.A.Application.meaning) rows s)
+    refused_alike (g.A.Opening.words.kinds) (g.A.Application.meaning) c.args.given _ (SetsDeliver (g.A.Opening.words.kinds) (g.A.Application.meaning) c.args.given rows) _ _ c.deliver_settings.result
+    c.map-in-deliver.result found (λ e s. sets_deliver (g.A.Opening.words.kinds) (g.A.Application.meaning) c.args.given rows s)
     c.deliver_settings.ensures.none c.map-in-deliver.ensures.cases
 
 pub returns-in-simulate-clause-set : goal.returns-in-simulate-clause-set
@@ -55,9 +55,9 @@ returns-in-simulate-clause-set g c =
     let rows : List Row = rows_of (found_of c.in-Some.options.now) in
     let found = found_is c.args.matches.now (codes "simulate") rows (search (rules, c.in-simulate.is, c.in-Some.ensures.name))
     c.in-Some.ensures.rows in
-    set_alike (g.A.Opening.words.kinds) (g.A.Application.meaning) (λ t s. s ≡ settings.Simulate t)
-    (SetsSimulate rows) _ _ c.simulate_settings.result c.map-in-simulate.result found
-    (λ t s is set. subst (λ x. Sets (g.A.Opening.words.kinds) (g.A.Application.meaning) (Some (codes "simulate", rows)) x) (sym is) (refl, set))
+    set_alike (g.A.Opening.words.kinds) (g.A.Application.meaning) c.args.given (λ t s. s ≡ settings.Simulate t)
+    (SetsSimulate c.args.given rows) _ _ c.simulate_settings.result c.map-in-simulate.result found
+    (λ t s is set. subst (λ x. Sets (g.A.Opening.words.kinds) (g.A.Application.meaning) c.args.given (Some (codes "simulate", rows)) x) (sym is) (refl, set))
     c.simulate_settings.ensures.some
     c.map-in-simulate.ensures.cases
 
@@ -66,18 +66,18 @@ returns-in-simulate-clause-refused g c =
     let rows : List Row = rows_of (found_of c.in-Some.options.now) in
     let found = found_is c.args.matches.now (codes "simulate") rows (search (rules, c.in-simulate.is, c.in-Some.ensures.name))
     c.in-Some.ensures.rows in
-    refused_alike (g.A.Opening.words.kinds) (g.A.Application.meaning) _ (SetsSimulate rows) _ _ c.simulate_settings.result c.map-in-simulate.result found
-    (λ e s. sets_simulate (g.A.Opening.words.kinds) (g.A.Application.meaning) rows s)
-    (refused_anyway (SetsSimulate rows) WantsMemory _ c.simulate_settings.ensures.none) c.map-in-simulate.ensures.cases
+    refused_alike (g.A.Opening.words.kinds) (g.A.Application.meaning) c.args.given _ (SetsSimulate c.args.given rows) _ _ c.simulate_settings.result c.map-in-simulate.result found
+    (λ e s. sets_simulate (g.A.Opening.words.kinds) (g.A.Application.meaning) c.args.given rows s)
+    (refused_anyway (SetsSimulate c.args.given rows) WantsMemory _ c.simulate_settings.ensures.none) c.map-in-simulate.ensures.cases
 
 pub returns-in-cluster-clause-set : goal.returns-in-cluster-clause-set
 returns-in-cluster-clause-set g c =
     let rows : List Row = rows_of (found_of c.in-Some.options.now) in
     let found = found_is c.args.matches.now (codes "cluster") rows (search (rules, c.in-cluster.is, c.in-Some.ensures.name))
     c.in-Some.ensures.rows in
-    set_alike (g.A.Opening.words.kinds) (g.A.Application.meaning) (λ t s. s ≡ settings.Cluster t)
-    (SetsRunning (g.A.Opening.words.kinds) (g.A.Application.meaning) rows) _ _ c.cluster_settings.result c.map-in-cluster.result found
-    (λ t s is set. subst (λ x. Sets (g.A.Opening.words.kinds) (g.A.Application.meaning) (Some (codes "cluster", rows)) x) (sym is) (refl, set))
+    set_alike (g.A.Opening.words.kinds) (g.A.Application.meaning) c.args.given (λ t s. s ≡ settings.Cluster t)
+    (SetsRunning (g.A.Opening.words.kinds) (g.A.Application.meaning) c.args.given rows) _ _ c.cluster_settings.result c.map-in-cluster.result found
+    (λ t s is set. subst (λ x. Sets (g.A.Opening.words.kinds) (g.A.Application.meaning) c.args.given (Some (codes "cluster", rows)) x) (sym is) (refl, set))
     c.cluster_settings.ensures.some
     c.map-in-cluster.ensures.cases
 
@@ -86,8 +86,8 @@ returns-in-cluster-clause-refused g c =
     let rows : List Row = rows_of (found_of c.in-Some.options.now) in
     let found = found_is c.args.matches.now (codes "cluster") rows (search (rules, c.in-cluster.is, c.in-Some.ensures.name))
     c.in-Some.ensures.rows in
-    refused_alike (g.A.Opening.words.kinds) (g.A.Application.meaning) _ (SetsRunning (g.A.Opening.words.kinds) (g.A.Application.meaning) rows) _ _ c.cluster_settings.result
-    c.map-in-cluster.result found (λ e s. sets_cluster (g.A.Opening.words.kinds) (g.A.Application.meaning) rows s)
+    refused_alike (g.A.Opening.words.kinds) (g.A.Application.meaning) c.args.given _ (SetsRunning (g.A.Opening.words.kinds) (g.A.Application.meaning) c.args.given rows) _ _ c.cluster_settings.result
+    c.map-in-cluster.result found (λ e s. sets_cluster (g.A.Opening.words.kinds) (g.A.Application.meaning) c.args.given rows s)
     c.cluster_settings.ensures.none c.map-in-cluster.ensures.cases
 
 pub returns-in-serve-clause-set : goal.returns-in-serve-clause-set
@@ -95,9 +95,9 @@ returns-in-serve-clause-set g c =
     let rows : List Row = rows_of (found_of c.in-Some.options.now) in
     let found = found_is c.args.matches.now (codes "serve") rows (search (rules, c.in-serve.is, c.in-Some.ensures.name))
     c.in-Some.ensures.rows in
-    set_alike (g.A.Opening.words.kinds) (g.A.Application.meaning) (λ t s. s ≡ settings.Serve t)
-    (SetsServe (g.A.Opening.words.kinds) (g.A.Application.meaning) rows) _ _ c.serve_settings.result c.map-in-serve.result found
-    (λ t s is set. subst (λ x. Sets (g.A.Opening.words.kinds) (g.A.Application.meaning) (Some (codes "serve", rows)) x) (sym is) (refl, set))
+    set_alike (g.A.Opening.words.kinds) (g.A.Application.meaning) c.args.given (λ t s. s ≡ settings.Serve t)
+    (SetsServe (g.A.Opening.words.kinds) (g.A.Application.meaning) c.args.given rows) _ _ c.serve_settings.result c.map-in-serve.result found
+    (λ t s is set. subst (λ x. Sets (g.A.Opening.words.kinds) (g.A.Application.meaning) c.args.given (Some (codes "serve", rows)) x) (sym is) (refl, set))
     c.serve_settings.ensures.some
     c.map-in-serve.ensures.cases
 
@@ -106,8 +106,8 @@ returns-in-serve-clause-refused g c =
     let rows : List Row = rows_of (found_of c.in-Some.options.now) in
     let found = found_is c.args.matches.now (codes "serve") rows (search (rules, c.in-serve.is, c.in-Some.ensures.name))
     c.in-Some.ensures.rows in
-    refused_alike (g.A.Opening.words.kinds) (g.A.Application.meaning) _ (SetsServe (g.A.Opening.words.kinds) (g.A.Application.meaning) rows) _ _ c.serve_settings.result c.map-in-serve.result
-    found (λ e s. sets_serve (g.A.Opening.words.kinds) (g.A.Application.meaning) rows s)
+    refused_alike (g.A.Opening.words.kinds) (g.A.Application.meaning) c.args.given _ (SetsServe (g.A.Opening.words.kinds) (g.A.Application.meaning) c.args.given rows) _ _ c.serve_settings.result c.map-in-serve.result
+    found (λ e s. sets_serve (g.A.Opening.words.kinds) (g.A.Application.meaning) c.args.given rows s)
     c.serve_settings.ensures.none c.map-in-serve.ensures.cases
 
 pub returns-in-audit-clause-set : goal.returns-in-audit-clause-set
@@ -115,9 +115,9 @@ returns-in-audit-clause-set g c =
     let rows : List Row = rows_of (found_of c.in-Some.options.now) in
     let found = found_is c.args.matches.now (codes "audit") rows (search (rules, c.in-audit.is, c.in-Some.ensures.name))
     c.in-Some.ensures.rows in
-    set_alike (g.A.Opening.words.kinds) (g.A.Application.meaning) (λ t s. s ≡ settings.Audit t)
-    (SetsAudit (g.A.Opening.words.kinds) rows) _ _ c.audit_settings.result c.map-in-audit.result found
-    (λ t s is set. subst (λ x. Sets (g.A.Opening.words.kinds) (g.A.Application.meaning) (Some (codes "audit", rows)) x) (sym is) (refl, set))
+    set_alike (g.A.Opening.words.kinds) (g.A.Application.meaning) c.args.given (λ t s. s ≡ settings.Audit t)
+    (SetsAudit (g.A.Opening.words.kinds) c.args.given rows) _ _ c.audit_settings.result c.map-in-audit.result found
+    (λ t s is set. subst (λ x. Sets (g.A.Opening.words.kinds) (g.A.Application.meaning) c.args.given (Some (codes "audit", rows)) x) (sym is) (refl, set))
     c.audit_settings.ensures.some
     c.map-in-audit.ensures.cases
 
@@ -126,8 +126,8 @@ returns-in-draw-clause-set g c =
     let rows : List Row = rows_of (found_of c.in-Some.options.now) in
     let found = found_is c.args.matches.now (codes "draw") rows (search (rules, c.in-draw.is, c.in-Some.ensures.name))
     c.in-Some.ensures.rows in
-    set_alike (g.A.Opening.words.kinds) (g.A.Application.meaning) (λ t s. s ≡ settings.Draw t) (SetsDraw (g.A.Opening.words.kinds) rows) _ _ c.draw_settings.result c.map-in-draw.result found
-    (λ t s is set. subst (λ x. Sets (g.A.Opening.words.kinds) (g.A.Application.meaning) (Some (codes "draw", rows)) x) (sym is) (refl, set))
+    set_alike (g.A.Opening.words.kinds) (g.A.Application.meaning) c.args.given (λ t s. s ≡ settings.Draw t) (SetsDraw (g.A.Opening.words.kinds) c.args.given rows) _ _ c.draw_settings.result c.map-in-draw.result found
+    (λ t s is set. subst (λ x. Sets (g.A.Opening.words.kinds) (g.A.Application.meaning) c.args.given (Some (codes "draw", rows)) x) (sym is) (refl, set))
     c.draw_settings.ensures.some
     c.map-in-draw.ensures.cases
 
@@ -136,8 +136,8 @@ returns-in-audit-clause-refused g c =
     let rows : List Row = rows_of (found_of c.in-Some.options.now) in
     let found = found_is c.args.matches.now (codes "audit") rows (search (rules, c.in-audit.is, c.in-Some.ensures.name))
     c.in-Some.ensures.rows in
-    refused_alike (g.A.Opening.words.kinds) (g.A.Application.meaning) _ (SetsAudit (g.A.Opening.words.kinds) rows) _ _ c.audit_settings.result c.map-in-audit.result found
-    (λ e s. sets_audit (g.A.Opening.words.kinds) (g.A.Application.meaning) rows s)
+    refused_alike (g.A.Opening.words.kinds) (g.A.Application.meaning) c.args.given _ (SetsAudit (g.A.Opening.words.kinds) c.args.given rows) _ _ c.audit_settings.result c.map-in-audit.result found
+    (λ e s. sets_audit (g.A.Opening.words.kinds) (g.A.Application.meaning) c.args.given rows s)
     c.audit_settings.ensures.none c.map-in-audit.ensures.cases
 
 pub returns-in-draw-clause-refused : goal.returns-in-draw-clause-refused
@@ -145,13 +145,13 @@ returns-in-draw-clause-refused g c =
     let rows : List Row = rows_of (found_of c.in-Some.options.now) in
     let found = found_is c.args.matches.now (codes "draw") rows (search (rules, c.in-draw.is, c.in-Some.ensures.name))
     c.in-Some.ensures.rows in
-    refused_alike (g.A.Opening.words.kinds) (g.A.Application.meaning) _ (SetsDraw (g.A.Opening.words.kinds) rows) _ _ c.draw_settings.result c.map-in-draw.result found
-    (λ e s. sets_draw (g.A.Opening.words.kinds) (g.A.Application.meaning) rows s)
+    refused_alike (g.A.Opening.words.kinds) (g.A.Application.meaning) c.args.given _ (SetsDraw (g.A.Opening.words.kinds) c.args.given rows) _ _ c.draw_settings.result c.map-in-draw.result found
+    (λ e s. sets_draw (g.A.Opening.words.kinds) (g.A.Application.meaning) c.args.given rows s)
     c.draw_settings.ensures.none c.map-in-draw.ensures.cases
 
 pub returns-in_default-name-clause-refused : goal.returns-in_default-name-clause-refused
 returns-in_default-name-clause-refused g c = λ s sets.
-    elim (names_one (g.A.Opening.words.kinds) (g.A.Application.meaning) c.args.matches.now s sets) [
+    elim (names_one (g.A.Opening.words.kinds) (g.A.Application.meaning) c.args.given c.args.matches.now s sets) [
       | inl h ↦ c.in_default-name.not-sign (same_Some c.in-Some.name.now (codes "sign") (c.in-Some.ensures.name ∙ h))
       | inr (inl h) ↦ c.in_default-name.not-deliver (same_Some c.in-Some.name.now (codes "deliver") (c.in-Some.ensures.name ∙ h))
       | inr (inr (inl h)) ↦ c.in_default-name.not-simulate (same_Some c.in-Some.name.now (codes "simulate") (c.in-Some.ensures.name ∙ h))
@@ -170,7 +170,7 @@ returns-in-sign-clause-right g c =
     let rows : List Row = rows_of (found_of c.in-Some.options.now) in
     let found = found_is c.args.matches.now (codes "sign") rows (search (rules, c.in-sign.is, c.in-Some.ensures.name))
     c.in-Some.ensures.rows in
-    right_alike (g.A.Opening.words.kinds) (g.A.Application.meaning) _ _ _ c.sign_settings.result c.map.result found
+    right_alike (g.A.Opening.words.kinds) (g.A.Application.meaning) c.args.given _ _ _ c.sign_settings.result c.map.result found
     (c.sign_settings.ensures.right (g.A.Application.meaning)) c.map.ensures.cases
 
 pub returns-in-deliver-clause-right : goal.returns-in-deliver-clause-right
@@ -178,7 +178,7 @@ returns-in-deliver-clause-right g c =
     let rows : List Row = rows_of (found_of c.in-Some.options.now) in
     let found = found_is c.args.matches.now (codes "deliver") rows (search (rules, c.in-deliver.is, c.in-Some.ensures.name))
     c.in-Some.ensures.rows in
-    right_alike (g.A.Opening.words.kinds) (g.A.Application.meaning) _ _ _ c.deliver_settings.result c.map-in-deliver.result found c.deliver_settings.ensures.right
+    right_alike (g.A.Opening.words.kinds) (g.A.Application.meaning) c.args.given _ _ _ c.deliver_settings.result c.map-in-deliver.result found c.deliver_settings.ensures.right
     c.map-in-deliver.ensures.cases
 
 pub returns-in-simulate-clause-right : goal.returns-in-simulate-clause-right
@@ -186,7 +186,7 @@ returns-in-simulate-clause-right g c =
     let rows : List Row = rows_of (found_of c.in-Some.options.now) in
     let found = found_is c.args.matches.now (codes "simulate") rows (search (rules, c.in-simulate.is, c.in-Some.ensures.name))
     c.in-Some.ensures.rows in
-    right_alike (g.A.Opening.words.kinds) (g.A.Application.meaning) _ _ _ c.simulate_settings.result c.map-in-simulate.result found
+    right_alike (g.A.Opening.words.kinds) (g.A.Application.meaning) c.args.given _ _ _ c.simulate_settings.result c.map-in-simulate.result found
     (c.simulate_settings.ensures.right (g.A.Opening.words.kinds) (g.A.Application.meaning))
     c.map-in-simulate.ensures.cases
 
@@ -195,7 +195,7 @@ returns-in-cluster-clause-right g c =
     let rows : List Row = rows_of (found_of c.in-Some.options.now) in
     let found = found_is c.args.matches.now (codes "cluster") rows (search (rules, c.in-cluster.is, c.in-Some.ensures.name))
     c.in-Some.ensures.rows in
-    right_alike (g.A.Opening.words.kinds) (g.A.Application.meaning) _ _ _ c.cluster_settings.result c.map-in-cluster.result found
+    right_alike (g.A.Opening.words.kinds) (g.A.Application.meaning) c.args.given _ _ _ c.cluster_settings.result c.map-in-cluster.result found
     (c.cluster_settings.ensures.right running_options (has_running _ _ _ _))
     c.map-in-cluster.ensures.cases
 
@@ -204,7 +204,7 @@ returns-in-serve-clause-right g c =
     let rows : List Row = rows_of (found_of c.in-Some.options.now) in
     let found = found_is c.args.matches.now (codes "serve") rows (search (rules, c.in-serve.is, c.in-Some.ensures.name))
     c.in-Some.ensures.rows in
-    right_alike (g.A.Opening.words.kinds) (g.A.Application.meaning) _ _ _ c.serve_settings.result c.map-in-serve.result found c.serve_settings.ensures.right
+    right_alike (g.A.Opening.words.kinds) (g.A.Application.meaning) c.args.given _ _ _ c.serve_settings.result c.map-in-serve.result found c.serve_settings.ensures.right
     c.map-in-serve.ensures.cases
 
 pub returns-in-audit-clause-right : goal.returns-in-audit-clause-right
@@ -212,7 +212,7 @@ returns-in-audit-clause-right g c =
     let rows : List Row = rows_of (found_of c.in-Some.options.now) in
     let found = found_is c.args.matches.now (codes "audit") rows (search (rules, c.in-audit.is, c.in-Some.ensures.name))
     c.in-Some.ensures.rows in
-    right_alike (g.A.Opening.words.kinds) (g.A.Application.meaning) _ _ _ c.audit_settings.result c.map-in-audit.result found
+    right_alike (g.A.Opening.words.kinds) (g.A.Application.meaning) c.args.given _ _ _ c.audit_settings.result c.map-in-audit.result found
     (c.audit_settings.ensures.right (g.A.Application.meaning)) c.map-in-audit.ensures.cases
 
 pub returns-in-draw-clause-right : goal.returns-in-draw-clause-right
@@ -220,7 +220,7 @@ returns-in-draw-clause-right g c =
     let rows : List Row = rows_of (found_of c.in-Some.options.now) in
     let found = found_is c.args.matches.now (codes "draw") rows (search (rules, c.in-draw.is, c.in-Some.ensures.name))
     c.in-Some.ensures.rows in
-    right_alike (g.A.Opening.words.kinds) (g.A.Application.meaning) _ _ _ c.draw_settings.result c.map-in-draw.result found
+    right_alike (g.A.Opening.words.kinds) (g.A.Application.meaning) c.args.given _ _ _ c.draw_settings.result c.map-in-draw.result found
     (c.draw_settings.ensures.right (g.A.Application.meaning)) c.map-in-draw.ensures.cases
 
 pub returns-in_default-name-clause-right : goal.returns-in_default-name-clause-right
