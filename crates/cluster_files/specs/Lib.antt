@@ -1,0 +1,6 @@
+pub mod KeySizes
+pub mod FileTables
+pub mod FileTexts
+pub mod Descriptions
+pub mod FileFaults
+pub mod Laws
