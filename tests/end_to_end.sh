@@ -196,6 +196,9 @@ refuses "error: --seed is 64 hexadecimal digits, not '00'" simulate --seed 00
 refuses "error: --seed is 64 hexadecimal digits, not '${ones}1'" simulate --histories --seed "${ones}1"
 refuses "error: --seed is 64 hexadecimal digits, not 'random'" audit --seed random
 refuses "error: --seed is 64 hexadecimal digits or random, not '00'" serve --seed 00
+refuses "error: --rounds is a number from 0 to 4000000000, not 'x'" serve --seed random --rounds x
+refuses "error: --rounds is a number from 0 to 4000000000, not 'x'" serve --seed-file missing --rounds x
+refuses "error: --tx 'a=1' is refused by the application's check: code 1" cluster --seed random --kind purse
 refuses "error: the seed comes from --seed or from --seed-file, not from both" sign report --seed-file "'$room/none'" --seed "$ones"
 refuses "error: --seed-file is a file of 64 hexadecimal digits, or of 32 bytes, not '-'" sign report --seed-file -
 refuses "error: --seed-file is a file of 64 hexadecimal digits, or of 32 bytes, not '$room/key-bad'" sign report --seed-file "'$room/key-bad'"

@@ -106,7 +106,8 @@ fn draw_seed<R: RandomSource>(rt: &R) -> Result<[u8; 32], ProgramFault> {
 }
 
 /// The seed that [`run`](program::run) is given: of the file that the words name, if that has one, or a random one, if they ask for it.
-/// Nothing is read or drawn for words that have a fault.
+/// Nothing is read or drawn for words that have a fault, or that have the seed themselves. These are given a seed of zeros, which sets nothing,
+/// as `seed_source` promises, so that the fault that is told is the words' own.
 pub(crate) fn given_seed<'a, A: Opening, R: Files + RandomSource, W: Write>(
     rt: &R,
     alloc: Global,
@@ -114,7 +115,7 @@ pub(crate) fn given_seed<'a, A: Opening, R: Files + RandomSource, W: Write>(
     errors: &mut W,
 ) -> Result<Option<[u8; 32]>, SeedFault<'a>> {
     match seed_source::<A>(alloc, words)? {
-        SeedSource::Words => Ok(None),
+        SeedSource::Words => Ok(Some([0; 32])),
         SeedSource::File(path) => read_seed(rt, alloc, path, errors),
         SeedSource::Random => match draw_seed(rt) {
             Ok(seed) => Ok(Some(seed)),
