@@ -106,8 +106,9 @@ fn draw_seed<R: RandomSource>(rt: &R) -> Result<[u8; 32], ProgramFault> {
 }
 
 /// The seed that [`run`](program::run) is given: of the file that the words name, if that has one, or a random one, if they ask for it.
-/// Nothing is read or drawn for words that have a fault, or that have the seed themselves. These are given a seed of zeros, which sets nothing,
-/// as `seed_source` promises, so that the fault that is told is the words' own.
+/// Nothing is read or drawn for words that have a fault, or that have the seed themselves. Both get a seed of zeros. By the clause of
+/// `seed_source` it changes nothing that the words set. So right words keep their own seed, and of wrong ones `run` reports their own fault,
+/// and not that a seed is missing.
 pub(crate) fn given_seed<'a, A: Opening, R: Files + RandomSource, W: Write>(
     rt: &R,
     alloc: Global,
