@@ -166,7 +166,7 @@ runs 'a pool that a purse checks' 0 $'commits 0 0\ncommits 1 0\ncommits 2 0\ncom
 refuses 'error: a word of the command line is not UTF-8' sign report --value $'\xff'
 refuses 'error: a word of the command line is not UTF-8' $'\xff'
 refuses "error: 'abft' requires a subcommand but one was not provided
-  [subcommands: sign, deliver, simulate, cluster, serve, audit, draw, help]
+  [subcommands: sign, deliver, simulate, cluster, serve, audit, draw, keys, help]
 
 Usage: abft <COMMAND>
 
@@ -330,6 +330,7 @@ Commands:
   serve     Runs a whole cluster in one process, and listens on 127.0.0.1 for clients of its replicas
   audit     Audits the histories of standard input, and prints their one ledger, or the first fault
   draw      Draws the run of the histories of standard input, as an SVG document
+  keys      Prints the public file of a cluster, which an auditor needs in place of its seed
   help      Print this message or the help of the given subcommand(s)
 
 Options:
@@ -555,11 +556,12 @@ Options:
 EOT
     cat "$room/common" "$room/seed"
     cat <<'EOT'
+      --cluster <cluster>      The public file of the cluster, as 'keys' prints it, in place of all options before this one
       --receipt <receipt>      A receipt to look for, R:I:TX: the replica, the index in its history, and the transaction
   -h, --help                   Print help
 
 Input: the histories of N-t replicas or more, as bytes, one after another. 'simulate --histories' prints such bytes,
-and 'cluster --histories FILE' writes them. The options are those of the cluster.
+and 'cluster --histories FILE' writes them. The options are those of the cluster, or --cluster names its public file.
 
 Lines, if the histories are those of one ledger:
   ledger C  the ledger has C blocks
@@ -581,7 +583,7 @@ Exit status:
   0  the histories are those of one ledger, and the receipt, if there is one, holds
   1  'fault', 'bad history' or 'receipt wrong' was printed
   2  a fault of usage
-  3  out of memory, or a failed read or write
+  3  out of memory, a file that can't be read, or a failed read or write
 EOT
 } >"$room/wanted-out"
 check 'help of audit' 0 "'$abft' audit --help"
@@ -595,13 +597,15 @@ Options:
 EOT
     cat "$room/common" "$room/seed"
     cat <<'EOT'
+      --cluster <cluster>      The public file of the cluster, as 'keys' prints it, in place of all options before this one
       --height <height>        The one height to draw, 1 to 4096; 0 for all heights [default: 0]
       --first <first>          The first round to draw, 0 to 4000000000; 0 is the time before round 1 [default: 0]
       --last <last>            The last round to draw, 0 to 4000000000 [default: 64]
   -h, --help                   Print help
 
 Input: the histories of replicas, as bytes, one after another. 'simulate --histories' prints such bytes, and
-'cluster --histories FILE' writes them. The options are those of the cluster: histories of version 2 need --frames 2.
+'cluster --histories FILE' writes them. The options are those of the cluster, or --cluster names its public file:
+histories of version 2 need --frames 2, or a file that says so.
 A history is drawn up to its first entry that is not lawful after those before it, or sends what is not signed.
 
 Output: an SVG document, or 'bad history' if the input is not spelled as histories. docs/PICTURES.md says how to read it.
@@ -610,10 +614,37 @@ Exit status:
   0  the picture was written
   1  'bad history' was printed, or a history has such an entry, which standard error names
   2  a fault of usage
-  3  out of memory, or a failed read or write
+  3  out of memory, a file that can't be read, or a failed read or write
 EOT
 } >"$room/wanted-out"
 check 'help of draw' 0 "'$abft' draw --help"
+# The longer name of --write-seed moves the text of each option by two columns.
+{
+    cat <<'EOT'
+Prints the public file of a cluster, which an auditor needs in place of its seed
+
+Usage: abft keys [OPTIONS]
+
+Options:
+EOT
+    sed -E 's/; or random: a new one, shown nowhere/; or random: a new one, for --write-seed/; s/^(.{31})/\1  /' "$room/common" "$room/running-seed"
+    cat <<'EOT'
+      --write-seed <write-seed>  The file to create for the seed of --seed random; it must not be there yet
+  -h, --help                     Print help
+
+Output: the cluster's public file, TOML, which has no secret: its sizes, and a public key for each replica.
+'audit --cluster FILE' and 'draw --cluster FILE' need nothing else of a cluster.
+
+With --seed random --write-seed FILE the keys are new ones. FILE is created, for its owner alone, and gets their seed,
+64 hexadecimal digits, before anything is printed. 'serve --seed-file FILE' runs the cluster: give it the same sizes.
+
+Exit status:
+  0  the public file was written
+  2  a fault of usage
+  3  out of memory, a file that can't be read or created, or a failed write
+EOT
+} >"$room/wanted-out"
+check 'help of keys' 0 "'$abft' keys --help"
 runs 'the scenario in the help of simulate' 0 'submit 0 ok
 submit 1 ok
 submit 2 ok

@@ -5,7 +5,7 @@ use Rattle.std.proofs.lemmas.Option.{get_or_from_slice_get, slice_get-map, slice
 use Rattle.toml.proofs.Views.{items_view-push}
 use Rattle.std.specs.List.{All, slice_get}
 use Rattle.std.proofs.lemmas.List.Elements.{All-head, All-tail}
-use Rattle.cluster_files.specs.KeySizes.{Is56Bytes}
+use Rattle.cluster_files.specs.KeyBytes.{Is56Bytes}
 use Rattle.hex.specs.Hex.{encode_lower, IsBytes}
 use Rattle.hex.proofs.HexLemmas.{decode_sized-encode_lower}
 use Rattle.toml.specs.Data.{Data, string, array, Items, item, push_item, as_array, boolean, datetime, float, integer, table}

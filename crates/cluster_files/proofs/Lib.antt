@@ -6,4 +6,3 @@ pub mod Refusals
 pub mod Written
 pub mod PlainTexts
 pub mod LineTexts
-pub mod MadeRings

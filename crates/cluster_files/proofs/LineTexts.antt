@@ -11,10 +11,10 @@ use Rattle.toml_writer.specs.Text.{key_text, needs_escape}
 use Rattle.toml.specs.Data.{Data, array, string}
 use Rattle.toml.specs.Tables.{Expression, key_value}
 use Rattle.toml.specs.Text.{IsDocumentText, IsItemsText, IsLinesText, IsValueText, expressions, is_section, section}
-use Rattle.cluster_files.specs.KeySizes.{Is56Bytes}
+use Rattle.cluster_files.specs.KeyBytes.{Is56Bytes}
 use Rattle.cluster_files.specs.FileTables.{cluster_table, keys_data, kind_word, number_data}
 use Rattle.cluster_files.specs.FileTexts.{cluster_text, file_lines, in_quotes, key_lines, name_line}
-use Rattle.cluster_files.specs.declared.public_cluster.PublicCluster.{PublicCluster}
+use Rattle.cluster_setup.specs.declared.public_cluster.PublicCluster.{PublicCluster}
 use Rattle.cluster_files.proofs.PlainTexts.{is_plain, plain_digits, string_text-plain}
 
 -- a name and a value, as the printer takes them

@@ -18,11 +18,11 @@ use Rattle.lm_ots.specs.declared.params.Width.TheVariants.{W4, W8}
 use Rattle.lm_ots.specs.Parameters.{bits_of, levels_of}
 use Rattle.toml.specs.Data.{Items, Members, get_member}
 use Rattle.toml.specs.Parse.{parse_document}
-use Rattle.cluster_files.specs.KeySizes.{HasSizes}
+use Rattle.cluster_setup.specs.KeySizes.{HasSizes}
 use Rattle.cluster_files.specs.FileTables.{is_file_name, spelled_keys}
 use Rattle.cluster_files.specs.Descriptions.{Describes, HasNumber, IsClusterTable}
 use Rattle.cluster_files.specs.FileFaults.{HasNeither, IsOutOfRange, IsRightOfParsed, IsRightOfTable, IsRightOfText, TakesEitherOf, TakesRange}
-use Rattle.cluster_files.specs.declared.public_cluster.PublicCluster.{PublicCluster}
+use Rattle.cluster_setup.specs.declared.public_cluster.PublicCluster.{PublicCluster}
 use Rattle.cluster_files.specs.declared.fault.ClusterFileFault.{ClusterFileFault}
 use Rattle.cluster_files.specs.declared.fault.ClusterFileFault.TheVariants as fault
 use Rattle.cluster_files.proofs.SameClusters.{one_array, one_cluster, one_number, one_params}

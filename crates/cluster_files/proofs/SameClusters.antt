@@ -16,10 +16,10 @@ use Rattle.lm_ots.specs.declared.params.Width.{Width}
 use Rattle.lm_ots.specs.declared.params.Width.TheVariants.{W4, W8}
 use Rattle.lm_ots.specs.Parameters.{bits_of, levels_of}
 use Rattle.toml.specs.Data.{Items, Members, array, integer, string}
-use Rattle.cluster_files.specs.KeySizes.{HasSizes}
+use Rattle.cluster_setup.specs.KeySizes.{HasSizes}
 use Rattle.cluster_files.specs.FileTables.{spelled_keys, kind_word}
 use Rattle.cluster_files.specs.Descriptions.{HasNumber, HasParams, HasValue, IsClusterTable}
-use Rattle.cluster_files.specs.declared.public_cluster.PublicCluster.{PublicCluster}
+use Rattle.cluster_setup.specs.declared.public_cluster.PublicCluster.{PublicCluster}
 
 pub one_number : (table : Members) (name : List ℕ) (n m : ℕ) → HasNumber table name n → HasNumber table name m → n ≡ m
 one_number table name n m h k = let e : Some (integer (pos n)) ≡ Some (integer (pos m)) = sym h ∙ k in cc

@@ -4,7 +4,7 @@ use Rattle.std.proofs.lemmas.List.Elements.{All-from_recursion}
 use Rattle.toml.specs.Data.{items_depth, items_have_valid_dates, members_depth, members_have_valid_dates}
 use Rattle.cluster_files.specs.FileTables.{cluster_table, file_names, is_file_name, keys_data, spelled_keys}
 use Rattle.cluster_files.specs.Descriptions.{IsClusterTable}
-use Rattle.cluster_files.specs.declared.public_cluster.PublicCluster.{PublicCluster}
+use Rattle.cluster_setup.specs.declared.public_cluster.PublicCluster.{PublicCluster}
 
 -- it is a table of the cluster
 pub table_says : (cluster : PublicCluster) → spelled_keys (keys_data cluster.ring) ≡ map Some cluster.ring → IsClusterTable (cluster_table cluster) cluster

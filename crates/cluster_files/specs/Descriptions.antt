@@ -7,7 +7,7 @@ use Rattle.ledger_model.specs.Numbers.{version_number}
 use Rattle.lm_ots.specs.Parameters.{bits_of, levels_of}
 use Rattle.lm_ots.specs.declared.params.Params.{Params}
 use Rattle.cluster_files.specs.FileTables.{is_file_name, kind_word, number_data, spelled_keys, names_in}
-use Rattle.cluster_files.specs.declared.public_cluster.PublicCluster.{PublicCluster}
+use Rattle.cluster_setup.specs.declared.public_cluster.PublicCluster.{PublicCluster}
 
 -- the table has this value under a name
 abbrev pub HasValue : Members → List ℕ → Data → Type 0

@@ -4,7 +4,7 @@ use Rattle.toml.specs.Data.{Data, string, array, Items, Members, get_member, as_
 use Rattle.toml.specs.Parse.{parse_document}
 use Rattle.ledger_model.specs.declared.config.AppKind.{AppKind}
 use Rattle.lm_ots.specs.declared.params.Params.{Params}
-use Rattle.cluster_files.specs.KeySizes.{HasSizes}
+use Rattle.cluster_setup.specs.KeySizes.{HasSizes}
 use Rattle.cluster_files.specs.FileTables.{is_file_name, kind_word, spelled_key, spelled_keys, names_in}
 use Rattle.cluster_files.specs.Descriptions.{HasNumber, HasParams, HasValue}
 use Rattle.cluster_files.specs.declared.fault.ClusterFileFault.{ClusterFileFault}

@@ -12,7 +12,7 @@ use Rattle.ledger_model.specs.declared.config.AppKind.TheVariants.{Own, KvStore,
 use Rattle.ledger_model.specs.Numbers.{version_number}
 use Rattle.ledger_model.specs.Rules.{Ring}
 use Rattle.lm_ots.specs.Parameters.{bits_of, levels_of}
-use Rattle.cluster_files.specs.declared.public_cluster.PublicCluster.{PublicCluster}
+use Rattle.cluster_setup.specs.declared.public_cluster.PublicCluster.{PublicCluster}
 
 -- the names in a cluster's file, in the order in which they are written
 abbrev pub file_names : List (List ℕ)

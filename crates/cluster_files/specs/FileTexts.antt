@@ -6,7 +6,7 @@ use Rattle.ledger_model.specs.Numbers.{version_number}
 use Rattle.ledger_model.specs.Rules.{Ring}
 use Rattle.lm_ots.specs.Parameters.{bits_of, levels_of}
 use Rattle.cluster_files.specs.FileTables.{kind_word}
-use Rattle.cluster_files.specs.declared.public_cluster.PublicCluster.{PublicCluster}
+use Rattle.cluster_setup.specs.declared.public_cluster.PublicCluster.{PublicCluster}
 
 -- a line: a name and its value
 abbrev pub name_line : List ℕ → List ℕ → List ℕ

@@ -1,7 +1,7 @@
 -- The law of the files of clusters.
 use Rattle.std.specs.Prelude.{◌≡◌, ℕ, List}
 use Rattle.cluster_files.specs.Descriptions.{Describes}
-use Rattle.cluster_files.specs.declared.public_cluster.PublicCluster.{PublicCluster}
+use Rattle.cluster_setup.specs.declared.public_cluster.PublicCluster.{PublicCluster}
 
 -- a text describes at most one cluster
 abbrev pub DescribesOne : Type 0

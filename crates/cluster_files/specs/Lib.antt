@@ -1,4 +1,4 @@
-pub mod KeySizes
+pub mod KeyBytes
 pub mod FileTables
 pub mod FileTexts
 pub mod Descriptions

@@ -3,7 +3,7 @@ ghost use Rattle.std.specs.Prelude.{◌≡◌, ◌↔◌, codes, length, map, Al
 ghost use Rattle.toml.specs.Data.{Items, array};
 ghost use Rattle.toml.specs.View.{array_view, table_view, view};
 ghost use Rattle.cluster_files.specs.FileTables.{spelled_key, spelled_keys};
-ghost use Rattle.cluster_files.specs.KeySizes.{HasSizes};
+ghost use Rattle.cluster_setup.specs.KeySizes.{HasSizes};
 ghost use Rattle.cluster_files.specs.Descriptions.{HasNumber, HasParams, HasValue};
 ghost use Rattle.cluster_files.specs.FileFaults.{IsRightOfItem, IsRightOfTable};
 

@@ -4,13 +4,13 @@ ghost use Rattle.toml.specs.Parse.{parse_document};
 ghost use Rattle.toml.specs.View.{table_view};
 ghost use Rattle.cluster_files.specs.Descriptions.{Describes, IsClusterTable};
 ghost use Rattle.cluster_files.specs.FileFaults.{IsRightOfTable, IsRightOfText};
-ghost use Rattle.cluster_files.specs.declared.public_cluster.PublicCluster.{PublicCluster};
+ghost use Rattle.cluster_setup.specs.declared.public_cluster.PublicCluster.{PublicCluster};
 ghost use Rattle.cluster_files.specs.declared.fault.ClusterFileFault.TheVariants.{NoMemory};
 
 use crate::fault::ClusterFileFault;
 use crate::key_reading::ring;
-use crate::public_cluster::PublicCluster;
 use crate::table_reading::{config, params, unknown_name};
+use cluster_setup::PublicCluster;
 use std::alloc::Global;
 use toml::Table;
 

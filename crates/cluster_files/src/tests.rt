@@ -1,5 +1,6 @@
 //! Files of clusters: one that is read and written again, other spellings of it, and each fault with its sentence.
-use crate::{PublicCluster, read, text_of};
+use crate::{read, text_of};
+use cluster_setup::PublicCluster;
 use ledger_model::{AppKind, ReplicaId, Version};
 use lm_ots::{TreeHeight, Width};
 use std::alloc::Global;

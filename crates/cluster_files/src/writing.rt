@@ -5,12 +5,12 @@ ghost use Rattle.hex.specs.Hex.{IsBytes, encode_lower};
 ghost use Rattle.toml.specs.Data.{array, string};
 ghost use Rattle.toml.specs.Parse.{parse_document};
 ghost use Rattle.toml.specs.View.{table_view, view};
-ghost use Rattle.cluster_files.specs.KeySizes.{Is56Bytes};
+ghost use Rattle.cluster_files.specs.KeyBytes.{Is56Bytes};
 ghost use Rattle.cluster_files.specs.FileTexts.{cluster_text};
 ghost use Rattle.cluster_files.specs.FileTables.{cluster_table, keys_data, kind_word, with_member};
 ghost use Rattle.cluster_files.specs.Descriptions.{Describes};
 
-use crate::public_cluster::PublicCluster;
+use cluster_setup::PublicCluster;
 use ledger_model::{AppKind, ReplicaId, Version};
 use lms_tree::PublicKey;
 use std::alloc::{AllocError, Global};

@@ -1,3 +1,4 @@
 mod Collected
+pub mod MadeRings
 pub mod RingLemmas
 pub mod SignersLeft

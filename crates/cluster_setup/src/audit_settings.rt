@@ -1,5 +1,5 @@
 //! The settings of `abft audit`.
-use crate::cluster_seed::ClusterSeed;
+use crate::known_cluster::KnownCluster;
 use ledger_model::{ReplicaId, Tx};
 
 /// What a client holds for a transaction that a replica took: the replica, the index of the entry in that replica's history,
@@ -14,6 +14,6 @@ pub struct Receipt {
 /// The settings of `abft audit`: the cluster whose histories are read, and the receipt to look for, if there is one.
 #[derive(Drop)]
 pub struct AuditSettings {
-    pub cluster: ClusterSeed,
+    pub cluster: KnownCluster,
     pub receipt: Option<Receipt>,
 }

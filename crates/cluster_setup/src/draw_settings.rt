@@ -1,10 +1,10 @@
 //! The settings of `abft draw`.
-use crate::cluster_seed::ClusterSeed;
+use crate::known_cluster::KnownCluster;
 
 /// The settings of `abft draw`: the cluster whose histories are read, and the part of its run that is drawn.
 #[derive(Drop)]
 pub struct DrawSettings {
-    pub cluster: ClusterSeed,
+    pub cluster: KnownCluster,
     /// The one height that is drawn; 0 for all heights.
     pub height: u32,
     /// The first round that is drawn; round 0 is the time before the first round.

@@ -1,5 +1,6 @@
 //! The settings of one run of the program: what its subcommand is told.
 use crate::audit_settings::AuditSettings;
+use crate::cluster_seed::ClusterSeed;
 use crate::cluster_settings::{ClusterSettings, ServeSettings};
 use crate::deliver_settings::DeliverSettings;
 use crate::draw_settings::DrawSettings;
@@ -16,4 +17,6 @@ pub enum Settings {
     Serve(ServeSettings),
     Audit(AuditSettings),
     Draw(DrawSettings),
+    /// Of `abft keys`: the cluster whose public file is written.
+    Keys(ClusterSeed),
 }

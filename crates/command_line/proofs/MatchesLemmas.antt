@@ -23,9 +23,11 @@ use Rattle.clap.specs.declared.parser.matches.ArgMatches.TheViews.{out-ArgMatche
 use Rattle.std.specs.Box.{box_value}
 use Rattle.clap.proofs.OnLiterals.{clap_on_literals}
 use Rattle.command_line.specs.Grammar.{abft_app}
-use Rattle.command_line.specs.Options.{Sets, SetsAudit, SetsDraw, SetsSign, SetsDeliver, SetsSimulate, SetsRunning, SetsServe, WantsMemory}
+use Rattle.command_line.specs.Options.{Sets, SetsAudit, SetsDraw, SetsKeys, SetsSign, SetsDeliver, SetsSimulate, SetsRunning, SetsServe, WantsMemory}
+use Rattle.command_line.specs.declared.given_keys.GivenKeys.{GivenKeys}
 use Rattle.command_line.specs.declared.usage_fault.UsageFault.{UsageFault}
 use Rattle.command_line.proofs.NumberLemmas.{on_err}
+use Rattle.cluster_setup.specs.declared.cluster_seed.ClusterSeed.{ClusterSeed}
 use Rattle.cluster_setup.specs.declared.sign_settings.SignSettings.{SignSettings}
 use Rattle.cluster_setup.specs.declared.deliver_settings.DeliverSettings.{DeliverSettings}
 use Rattle.cluster_setup.specs.declared.simulate_settings.SimulateSettings.{SimulateSettings}
@@ -73,16 +75,17 @@ pub rows_are : (program : ProgramWords) (m : ArgMatches) (app : App) (words : Li
     → subcommand_rows_of m ≡ subcommand_of (abft_app program) words
 rows_are program m app words is has = (has (ap is_simple is ∙ abft_is_simple program)).1 ∙ ap (λ a. subcommand_of a words) is
 
--- the name is one of the seven subcommands'
-abbrev pub IsOneOfSeven : Option Text → Type 0
-IsOneOfSeven name =
+-- the name is one of the eight subcommands'
+abbrev pub IsOneOfEight : Option Text → Type 0
+IsOneOfEight name =
     (name ≡ Some (codes "sign")) ⊎
     ((name ≡ Some (codes "deliver"))
     ⊎ ((name ≡ Some (codes "simulate"))
-    ⊎ ((name ≡ Some (codes "cluster")) ⊎ ((name ≡ Some (codes "serve")) ⊎ ((name ≡ Some (codes "audit")) ⊎ (name ≡ Some (codes "draw")))))))
+    ⊎ ((name ≡ Some (codes "cluster")) ⊎ ((name ≡ Some (codes "serve")) ⊎ ((name ≡ Some (codes "audit"))
+    ⊎ ((name ≡ Some (codes "draw")) ⊎ (name ≡ Some (codes "keys"))))))))
 
 -- whatever is set is set by a subcommand of one of these names
-named : (kinds : AppKinds) (meaning : Meanings) (given : Option (List ℕ)) (o : Option (Text × List Row)) (s : Settings) → Sets kinds meaning given o s → IsOneOfSeven (option_map (λ p. p.0) o)
+named : (kinds : AppKinds) (meaning : Meanings) (given : GivenKeys) (o : Option (Text × List Row)) (s : Settings) → Sets kinds meaning given o s → IsOneOfEight (option_map (λ p. p.0) o)
 named kinds meaning given None s sets = absurd sets
 named kinds meaning given (Some p) (settings.Sign t) sets = inl (ap (λ n. Some n) sets.0)
 named kinds meaning given (Some p) (settings.Deliver t) sets = inr (inl (ap (λ n. Some n) sets.0))
@@ -90,54 +93,60 @@ named kinds meaning given (Some p) (settings.Simulate t) sets = inr (inr (inl (a
 named kinds meaning given (Some p) (settings.Cluster t) sets = inr (inr (inr (inl (ap (λ n. Some n) sets.0))))
 named kinds meaning given (Some p) (settings.Serve t) sets = inr (inr (inr (inr (inl (ap (λ n. Some n) sets.0)))))
 named kinds meaning given (Some p) (settings.Audit t) sets = inr (inr (inr (inr (inr (inl (ap (λ n. Some n) sets.0))))))
-named kinds meaning given (Some p) (settings.Draw t) sets = inr (inr (inr (inr (inr (inr (ap (λ n. Some n) sets.0))))))
+named kinds meaning given (Some p) (settings.Draw t) sets = inr (inr (inr (inr (inr (inr (inl (ap (λ n. Some n) sets.0)))))))
+named kinds meaning given (Some p) (settings.Keys t) sets = inr (inr (inr (inr (inr (inr (inr (ap (λ n. Some n) sets.0)))))))
 
-pub names_one : (kinds : AppKinds) (meaning : Meanings) (given : Option (List ℕ)) (m : ArgMatches) (s : Settings) → Sets kinds meaning given (subcommand_rows_of m) s
-    → IsOneOfSeven (subcommand_name_of m)
-names_one kinds meaning given m s sets = subst IsOneOfSeven (name_is m) (named kinds meaning given (subcommand_rows_of m) s sets)
+pub names_one : (kinds : AppKinds) (meaning : Meanings) (given : GivenKeys) (m : ArgMatches) (s : Settings) → Sets kinds meaning given (subcommand_rows_of m) s
+    → IsOneOfEight (subcommand_name_of m)
+names_one kinds meaning given m s sets = subst IsOneOfEight (name_is m) (named kinds meaning given (subcommand_rows_of m) s sets)
 
 -- names that differ are not the same
 pub differ : {W : Type 0} (x y : Text) → bytes_eq x y ≡ false → x ≡ y → W
 differ x y are same = absurd (not_from_Decides (bytes_eq x y) (bytes_eq-Decides x y) are same)
 
 -- what is set by a subcommand of each name
-pub sets_sign : (kinds : AppKinds) (meaning : Meanings) (given : Option (List ℕ)) → {W : Type 0} (rows : List Row) (s : Settings) → ((t : SignSettings) → SetsSign kinds given rows t → W)
+pub sets_sign : (kinds : AppKinds) (meaning : Meanings) (given : GivenKeys) → {W : Type 0} (rows : List Row) (s : Settings) → ((t : SignSettings) → SetsSign kinds given.seed rows t → W)
     → Sets kinds meaning given (Some (codes "sign", rows)) s → W
 sets_sign kinds meaning given rows (settings.Sign t) then sets = then t sets.1
 sets_sign kinds meaning given rows s then sets = differ _ _ refl sets.0
 
-pub sets_deliver : (kinds : AppKinds) (meaning : Meanings) (given : Option (List ℕ)) → {W : Type 0} (rows : List Row) (s : Settings)
-    → ((t : DeliverSettings) → SetsDeliver kinds meaning given rows t → W)
+pub sets_deliver : (kinds : AppKinds) (meaning : Meanings) (given : GivenKeys) → {W : Type 0} (rows : List Row) (s : Settings)
+    → ((t : DeliverSettings) → SetsDeliver kinds meaning given.seed rows t → W)
     → Sets kinds meaning given (Some (codes "deliver", rows)) s → W
 sets_deliver kinds meaning given rows (settings.Deliver t) then sets = then t sets.1
 sets_deliver kinds meaning given rows s then sets = differ _ _ refl sets.0
 
-pub sets_simulate : (kinds : AppKinds) (meaning : Meanings) (given : Option (List ℕ)) → {W : Type 0} (rows : List Row) (s : Settings)
-    → ((t : SimulateSettings) → SetsSimulate given rows t → W)
+pub sets_simulate : (kinds : AppKinds) (meaning : Meanings) (given : GivenKeys) → {W : Type 0} (rows : List Row) (s : Settings)
+    → ((t : SimulateSettings) → SetsSimulate given.seed rows t → W)
     → Sets kinds meaning given (Some (codes "simulate", rows)) s → W
 sets_simulate kinds meaning given rows (settings.Simulate t) then sets = then t sets.1
 sets_simulate kinds meaning given rows s then sets = differ _ _ refl sets.0
 
-pub sets_cluster : (kinds : AppKinds) (meaning : Meanings) (given : Option (List ℕ)) → {W : Type 0} (rows : List Row) (s : Settings)
-    → ((t : ClusterSettings) → SetsRunning kinds meaning given rows t → W)
+pub sets_cluster : (kinds : AppKinds) (meaning : Meanings) (given : GivenKeys) → {W : Type 0} (rows : List Row) (s : Settings)
+    → ((t : ClusterSettings) → SetsRunning kinds meaning given.seed rows t → W)
     → Sets kinds meaning given (Some (codes "cluster", rows)) s → W
 sets_cluster kinds meaning given rows (settings.Cluster t) then sets = then t sets.1
 sets_cluster kinds meaning given rows s then sets = differ _ _ refl sets.0
 
-pub sets_serve : (kinds : AppKinds) (meaning : Meanings) (given : Option (List ℕ)) → {W : Type 0} (rows : List Row) (s : Settings) → ((t : ServeSettings) → SetsServe kinds meaning given rows t → W)
+pub sets_serve : (kinds : AppKinds) (meaning : Meanings) (given : GivenKeys) → {W : Type 0} (rows : List Row) (s : Settings) → ((t : ServeSettings) → SetsServe kinds meaning given.seed rows t → W)
     → Sets kinds meaning given (Some (codes "serve", rows)) s → W
 sets_serve kinds meaning given rows (settings.Serve t) then sets = then t sets.1
 sets_serve kinds meaning given rows s then sets = differ _ _ refl sets.0
 
-pub sets_audit : (kinds : AppKinds) (meaning : Meanings) (given : Option (List ℕ)) → {W : Type 0} (rows : List Row) (s : Settings) → ((t : AuditSettings) → SetsAudit kinds given rows t → W)
+pub sets_audit : (kinds : AppKinds) (meaning : Meanings) (given : GivenKeys) → {W : Type 0} (rows : List Row) (s : Settings) → ((t : AuditSettings) → SetsAudit kinds given rows t → W)
     → Sets kinds meaning given (Some (codes "audit", rows)) s → W
 sets_audit kinds meaning given rows (settings.Audit t) then sets = then t sets.1
 sets_audit kinds meaning given rows s then sets = differ _ _ refl sets.0
 
-pub sets_draw : (kinds : AppKinds) (meaning : Meanings) (given : Option (List ℕ)) → {W : Type 0} (rows : List Row) (s : Settings) → ((t : DrawSettings) → SetsDraw kinds given rows t → W)
+pub sets_draw : (kinds : AppKinds) (meaning : Meanings) (given : GivenKeys) → {W : Type 0} (rows : List Row) (s : Settings) → ((t : DrawSettings) → SetsDraw kinds given rows t → W)
     → Sets kinds meaning given (Some (codes "draw", rows)) s → W
 sets_draw kinds meaning given rows (settings.Draw t) then sets = then t sets.1
 sets_draw kinds meaning given rows s then sets = differ _ _ refl sets.0
+
+pub sets_keys : (kinds : AppKinds) (meaning : Meanings) (given : GivenKeys) → {W : Type 0} (rows : List Row) (s : Settings) → ((t : ClusterSeed) → SetsKeys kinds given.seed rows t → W)
+    → Sets kinds meaning given (Some (codes "keys", rows)) s → W
+sets_keys kinds meaning given rows (settings.Keys t) then sets = then t sets.1
+sets_keys kinds meaning given rows s then sets = differ _ _ refl sets.0
 
 -- where an option's value came from, among the entries and among the rows
 pub source_is : (f : Found) (id : Text)
@@ -157,7 +166,7 @@ not_so true P told = (λ bad. absurd cc, λ other. absurd (other (told.0 refl)))
 not_so false P told = (λ _ holds. let bad = told.1 holds in absurd cc, λ _. refl)
 
 -- settings that are set are set as those of the subcommand
-pub set_alike : (kinds : AppKinds) (meaning : Meanings) (given : Option (List ℕ)) → {T : Type 0} (Q : T → Settings → Type 0) (S : T → Type 0) (o : Option (Text × List Row))
+pub set_alike : (kinds : AppKinds) (meaning : Meanings) (given : GivenKeys) → {T : Type 0} (Q : T → Settings → Type 0) (S : T → Type 0) (o : Option (Text × List Row))
     (p : Text × List Row)
     (r : Result T UsageFault) (told : Result Settings UsageFault) → o ≡ Some p
     → ((t : T) (s : Settings) → Q t s → S t → Sets kinds meaning given (Some p) s)
@@ -169,7 +178,7 @@ set_alike kinds meaning given Q S o p (Err e) told found join set cases = subst 
     (sym cases) tt
 
 -- settings that are refused are refused as those of the subcommand
-pub refused_alike : (kinds : AppKinds) (meaning : Meanings) (given : Option (List ℕ)) → {T : Type 0} (Q : T → Settings → Type 0) (S : T → Type 0) (o : Option (Text × List Row))
+pub refused_alike : (kinds : AppKinds) (meaning : Meanings) (given : GivenKeys) → {T : Type 0} (Q : T → Settings → Type 0) (S : T → Type 0) (o : Option (Text × List Row))
     (p : Text × List Row)
     (r : Result T UsageFault) (told : Result Settings UsageFault) → o ≡ Some p
     → ((e : UsageFault) (s : Settings) → ((t : T) → S t → WantsMemory e) → Sets kinds meaning given (Some p) s → WantsMemory e)

@@ -1,7 +1,7 @@
 -- The faults of words that give no settings: each names what is wrong with the words.
 use Rattle.app_states.specs.ProgramWords.{ProgramWords}
 use Rattle.ledger_model.specs.Meanings.{Meanings}
-use Rattle.std.specs.Prelude.{◌≡◌, ◌≢◌, ◌⊎◌, ℕ, ◌<◌, ◌+◌, ◌*◌, ⊤, List, [], ◌∷◌, length, codes, slice_get, slice_index, Option, Some, None}
+use Rattle.std.specs.Prelude.{◌≡◌, ◌≢◌, ◌⊎◌, ℕ, ◌<◌, ◌+◌, ◌*◌, ⊤, List, [], ◌∷◌, length, codes, slice_get, slice_index, Option, Some, None, Contains}
 use Rattle.clap.specs.Words.{HasKind, IsAmong, Kinds, Row, Text, fault_of, first_of, subcommand_of}
 use Rattle.clap.specs.declared.error.ErrorKind.TheVariants as kind
 use Rattle.ledger_model.specs.declared.config.AppKind.{AppKind}
@@ -15,9 +15,10 @@ use Rattle.cluster_setup.specs.declared.sign_settings.What.{What}
 use Rattle.cluster_setup.specs.declared.audit_settings.Receipt.{Receipt}
 use Rattle.command_line.specs.Grammar.{abft_app}
 use Rattle.command_line.specs.Receipts.{SpellsReceipt}
-use Rattle.command_line.specs.Options.{HasOption, IsNumberWithin, IsNamed, IsWordSeed, IsWritten, OptionTable, SetsKind, TakesEither, TakesNumber, TakesTransaction}
-use Rattle.command_line.specs.Options.{options_of, word_of}
+use Rattle.command_line.specs.Options.{AsksForRandom, HasOption, IsNumberWithin, IsNamed, IsWordSeed, IsWritten, NamesFile, OptionTable, SetsKind, TakesEither, TakesNumber, TakesTransaction}
+use Rattle.command_line.specs.Options.{cluster_names, options_of, word_of}
 use Rattle.command_line.specs.declared.seed_words.SeedWords.{SeedWords}
+use Rattle.command_line.specs.declared.seed_words.SeedWords.TheVariants.{DigitsOrRandom}
 use Rattle.command_line.specs.declared.usage_fault.Input.{Input}
 use Rattle.command_line.specs.declared.usage_fault.Input.TheVariants.{Frames, Scenario, AuditedHistories, DrawnHistories}
 use Rattle.command_line.specs.declared.usage_fault.UsageFault.{UsageFault}
@@ -84,6 +85,17 @@ IsNoSeedFile given rows file = (first_of (codes "seed-file") rows ≡ Some file)
 abbrev pub AreTwoSeeds : List Row → Type 0
 AreTwoSeeds rows = IsNamed rows (codes "seed") × ((file : Text) × (first_of (codes "seed-file") rows ≡ Some file))
 
+-- the words ask for a random seed without a file to write it to, or name such a file without asking for a random seed
+abbrev pub IsUnwrittenSeed : List Row → Type 0
+IsUnwrittenSeed rows = (AsksForRandom DigitsOrRandom rows × (first_of (codes "write-seed") rows ≡ None))
+    ⊎ ((AsksForRandom DigitsOrRandom rows → ⊥) × NamesFile rows (codes "write-seed"))
+
+-- the words contain this option, although they name a file that stands for it
+pub record IsBesideFile (rows : List Row) (option : Text) : Type 0 where
+  pub file : NamesFile rows (codes "cluster")
+  pub stands : Contains cluster_names option
+  pub named : IsNamed rows option
+
 -- the options give these numbers of replicas and faults, and there are too few replicas
 pub record AreTooFew (rows : List Row) (replicas faults : ℕ) : Type 0 where
   pub n : IsNumberWithin rows (codes "n") 4 13 replicas
@@ -138,6 +150,11 @@ IsRightOf kinds meaning given table rows (fault.Seed taken word) = HasOption kin
     × IsNoSeed taken given rows word.now)
 IsRightOf kinds meaning given table rows (fault.SeedFile file) = HasOption kinds table (codes "seed-file") × IsNoSeedFile given rows file.now
 IsRightOf kinds meaning given table rows fault.TwoSeeds = HasOption kinds table (codes "seed") × (HasOption kinds table (codes "seed-file") × AreTwoSeeds rows)
+IsRightOf kinds meaning given table rows fault.UnwrittenSeed = HasOption kinds table (codes "seed") × (HasOption kinds table (codes "write-seed")
+    × IsUnwrittenSeed rows)
+IsRightOf kinds meaning given table rows (fault.BesideFile option) = HasOption kinds table (codes "cluster") × IsBesideFile rows option.now
+IsRightOf kinds meaning given table rows (fault.ClusterFile file) = HasOption kinds table (codes "cluster")
+    × (first_of (codes "cluster") rows ≡ Some file.now)
 IsRightOf kinds meaning given table rows (fault.TooFew replicas faults) = AreTooFew rows replicas faults
 IsRightOf kinds meaning given table rows (fault.Spelling option why) = TakesTransaction kinds table option.now × IsMisspelled rows option.now why
 IsRightOf kinds meaning given table rows (fault.NoTransaction option word) = TakesTransaction kinds table option.now
@@ -158,7 +175,8 @@ IsNoSubcommand None = ⊤
 IsNoSubcommand (Some found) =
     (found.0 ≢ codes "sign") × ((found.0 ≢ codes "deliver")
     × ((found.0 ≢ codes "simulate") × ((found.0 ≢ codes "cluster")
-    × ((found.0 ≢ codes "serve") × ((found.0 ≢ codes "audit") × (found.0 ≢ codes "draw"))))))
+    × ((found.0 ≢ codes "serve") × ((found.0 ≢ codes "audit") × ((found.0 ≢ codes "draw")
+    × (found.0 ≢ codes "keys")))))))
 
 -- the table of the subcommand that was found
 abbrev pub table_in : Option (Text × List Row) → OptionTable
@@ -191,6 +209,9 @@ IsRightFault program meaning given words (fault.Kind word) = IsRightOption progr
 IsRightFault program meaning given words (fault.Seed taken word) = IsRightOption program meaning given words (fault.Seed taken word)
 IsRightFault program meaning given words (fault.SeedFile file) = IsRightOption program meaning given words (fault.SeedFile file)
 IsRightFault program meaning given words fault.TwoSeeds = IsRightOption program meaning given words fault.TwoSeeds
+IsRightFault program meaning given words fault.UnwrittenSeed = IsRightOption program meaning given words fault.UnwrittenSeed
+IsRightFault program meaning given words (fault.BesideFile option) = IsRightOption program meaning given words (fault.BesideFile option)
+IsRightFault program meaning given words (fault.ClusterFile file) = IsRightOption program meaning given words (fault.ClusterFile file)
 IsRightFault program meaning given words (fault.TooFew replicas faults) = IsRightOption program meaning given words (fault.TooFew replicas faults)
 IsRightFault program meaning given words (fault.Spelling option why) = IsRightOption program meaning given words (fault.Spelling option why)
 IsRightFault program meaning given words (fault.NoTransaction option word) = IsRightOption program meaning given words (fault.NoTransaction option word)

@@ -155,9 +155,12 @@ with_serve a =
 abbrev pub serve_app : ProgramWords → App
 serve_app program = with_serve (with_running program (new_app (codes "serve")))
 
--- `abft audit`: the options of a cluster, and a receipt
+-- `abft audit`: the options of a cluster, or its file, and a receipt
 abbrev pub audit_app : ProgramWords → App
-audit_app program = with_rule (with_cluster program (new_app (codes "audit"))) (optional_rule (codes "receipt"))
+audit_app program =
+    with_rule (with_rule (with_cluster program (new_app (codes "audit")))
+    (optional_rule (codes "cluster")))
+    (optional_rule (codes "receipt"))
 
 -- the options that only `abft draw` has
 abbrev pub with_draw : App → App
@@ -167,23 +170,28 @@ with_draw a =
     (option_rule (codes "first") (codes "0")))
     (option_rule (codes "last") (codes "64"))
 
--- `abft draw`: the options of a cluster, and the part to draw
+-- `abft draw`: the options of a cluster, or its file, and the part to draw
 abbrev pub draw_app : ProgramWords → App
-draw_app program = with_draw (with_cluster program (new_app (codes "draw")))
+draw_app program = with_draw (with_rule (with_cluster program (new_app (codes "draw"))) (optional_rule (codes "cluster")))
+
+-- `abft keys`: the options of a cluster, and the file to which a random seed is written
+abbrev pub keys_app : ProgramWords → App
+keys_app program = with_rule (with_cluster program (new_app (codes "keys"))) (optional_rule (codes "write-seed"))
 
 -- a subcommand is required, and `--version` exists
 abbrev pub at_top : App → App
 at_top a = record a { top = record a.top { has_version = true; subcommand_required = true } }
 
--- the program: its seven subcommands
+-- the program: its eight subcommands
 abbrev pub abft_app : ProgramWords → App
 abft_app program =
     with_subcommand (with_subcommand (with_subcommand (with_subcommand
-    (with_subcommand (with_subcommand (with_subcommand (at_top (new_app program.name))
+    (with_subcommand (with_subcommand (with_subcommand (with_subcommand (at_top (new_app program.name))
     (sign_app program).top)
     (deliver_app program).top)
     simulate_app.top)
     (cluster_app program).top)
     (serve_app program).top)
     (audit_app program).top)
-    (draw_app program).top
+    (draw_app program).top)
+    (keys_app program).top

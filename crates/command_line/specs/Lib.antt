@@ -3,4 +3,4 @@ pub mod Receipts
 pub mod Seeds
 pub mod Options
 pub mod Faults
-pub mod SeedSources
+pub mod KeySources

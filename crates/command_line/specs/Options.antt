@@ -4,7 +4,7 @@ use Rattle.ledger_model.specs.declared.config.AppKinds.{AppKinds}
 use Rattle.app_states.specs.ProgramWords.{ProgramWords}
 use Rattle.ledger_model.specs.Meanings.{Meanings}
 use Rattle.std.specs.Prelude.{◌≡◌, ℕ, ◌==◌, Bool, true, false, not, ◌&&◌, ◌||◌, ◌≤◌, ◌+◌, ◌-◌, ◌*◌, IsTrue, List, [], ◌∷◌, ◌++◌, length, codes, Option, Some, MatchOption, ◌≢◌}
-use Rattle.std.specs.Prelude.{None, Ok, ◌⊎◌, ◌↔◌, find, option_and_then, option_map, if◌then◌else◌}
+use Rattle.std.specs.Prelude.{None, Ok, ◌⊎◌, ◌↔◌, find, option_and_then, option_map, if◌then◌else◌, Contains}
 use Rattle.std.specs.List.{list_any}
 use Rattle.std.specs.Str.{bytes_eq}
 use Rattle.std.specs.String.{string_bytes}
@@ -17,18 +17,21 @@ use Rattle.ledger_model.specs.declared.config.AppKind.{AppKind}
 use Rattle.ledger_model.specs.declared.config.AppKind.TheVariants.{Own, KvStore, Counter, Purse}
 use Rattle.ledger_model.specs.declared.config.AppKinds.TheVariants.{Three, OwnAlone}
 use Rattle.ledger_model.specs.Replies.{check_reply}
-use Rattle.ledger_model.specs.Numbers.{kind_number, version_number}
+use Rattle.ledger_model.specs.Numbers.{has_kind, kind_number, version_number}
 use Rattle.lm_ots.specs.Parameters.{bits_of, levels_of}
 use Rattle.log.specs.Level.{parse_filter}
 use Rattle.log.specs.declared.level.LevelFilter.{LevelFilter}
 use Rattle.log.specs.declared.level.LevelFilter.TheVariants.{Off}
 use Rattle.command_line.specs.Grammar.{abft_app}
 use Rattle.command_line.specs.Receipts.{SpellsReceipt}
+use Rattle.command_line.specs.declared.given_keys.GivenKeys.{GivenKeys}
 use Rattle.command_line.specs.declared.seed_words.SeedWords.{SeedWords}
 use Rattle.command_line.specs.declared.seed_words.SeedWords.TheVariants.{Digits, DigitsOrRandom}
 use Rattle.command_line.specs.declared.usage_fault.UsageFault.{UsageFault}
 use Rattle.command_line.specs.declared.usage_fault.UsageFault.TheVariants as fault
 use Rattle.cluster_setup.specs.declared.cluster_seed.ClusterSeed.{ClusterSeed}
+use Rattle.cluster_setup.specs.declared.known_cluster.KnownCluster.{KnownCluster}
+use Rattle.cluster_setup.specs.declared.known_cluster.KnownCluster.TheVariants.{BySeed, ByKeys}
 use Rattle.cluster_setup.specs.declared.sign_settings.SignSettings.{SignSettings}
 use Rattle.cluster_setup.specs.declared.deliver_settings.DeliverSettings.{DeliverSettings}
 use Rattle.cluster_setup.specs.declared.simulate_settings.SimulateSettings.{SimulateSettings}
@@ -117,7 +120,12 @@ serve_options = record {
 
 -- of `abft audit`
 abbrev pub audit_options : OptionTable
-audit_options = record { numbers = cluster_numbers; transactions = []; seed_words = Digits; names = cluster_names ++ codes "receipt" ∷ [] }
+audit_options = record {
+  numbers = cluster_numbers;
+  transactions = [];
+  seed_words = Digits;
+  names = cluster_names ++ codes "cluster" ∷ codes "receipt" ∷ [];
+}
 
 -- of `abft draw`
 abbrev pub draw_options : OptionTable
@@ -126,7 +134,16 @@ draw_options = record {
       (codes "last") 0 4000000000 ∷ [];
   transactions = [];
   seed_words = Digits;
-  names = cluster_names ++ codes "height" ∷ codes "first" ∷ codes "last" ∷ [];
+  names = cluster_names ++ codes "cluster" ∷ codes "height" ∷ codes "first" ∷ codes "last" ∷ [];
+}
+
+-- of `abft keys`
+abbrev pub keys_options : OptionTable
+keys_options = record {
+  numbers = cluster_numbers;
+  transactions = [];
+  seed_words = DigitsOrRandom;
+  names = cluster_names ++ codes "write-seed" ∷ [];
 }
 
 -- the options of a subcommand, by its name
@@ -139,6 +156,7 @@ options_of name =
     else if bytes_eq name (codes "serve") then serve_options
     else if bytes_eq name (codes "audit") then audit_options
     else if bytes_eq name (codes "draw") then draw_options
+    else if bytes_eq name (codes "keys") then keys_options
     else record { numbers = []; transactions = []; seed_words = Digits; names = [] }
 
 -- the text is one of these
@@ -246,6 +264,15 @@ abbrev pub IsSeed : SeedWords → Option (List ℕ) → List Row → List ℕ �
 IsSeed taken given rows seed =
     MatchOption (first_of (codes "seed-file") rows) (IsWordSeed taken given rows seed) (λ file. IsFileSeed file given rows seed)
 
+-- `--seed` is `random`, in a subcommand that takes that
+abbrev pub AsksForRandom : SeedWords → List Row → Type 0
+AsksForRandom Digits rows = ⊥
+AsksForRandom DigitsOrRandom rows = first_of (codes "seed") rows ≡ Some (codes "random")
+
+-- the words give this option this file
+abbrev pub NamesFile : List Row → Text → Type 0
+NamesFile rows option = (file : Text) × (first_of option rows ≡ Some file)
+
 -- the option's value encodes this transaction
 pub record IsWritten (rows : List Row) (name : Text) (tx : List ℕ) : Type 0 where
   pub text : Text
@@ -309,6 +336,22 @@ pub record SetsCluster (kinds : AppKinds) (taken : SeedWords) (given : Option (L
   pub frames : IsNumberWithin rows (codes "frames") 1 2 (version_number cluster.config.frames)
   pub seed : IsSeed taken given rows cluster.seed
 
+-- the words contain none of the options that a cluster's file stands for
+abbrev pub ContainsNoOther : List Row → Type 0
+ContainsNoOther rows = (option : Text) → Contains cluster_names option → IsNamed rows option → ⊥
+
+-- The cluster of histories: that of the options, or, if the words name its file and contain no option that the file stands for, the cluster
+-- that is given, which is of a kind that the program has. What a file has no clause can say, so this cluster is given.
+abbrev pub SetsKnown : AppKinds → GivenKeys → List Row → KnownCluster → Type 0
+SetsKnown kinds given rows (BySeed cluster) = (first_of (codes "cluster") rows ≡ None) × SetsCluster kinds Digits given.seed rows cluster
+SetsKnown kinds given rows (ByKeys cluster) = NamesFile rows (codes "cluster") × (ContainsNoOther rows
+    × ((given.cluster ≡ Some cluster) × (has_kind kinds cluster.config.kind ≡ true)))
+
+-- the options of `abft keys` set this cluster; the words name a file to write its seed to exactly if they ask for a random one
+pub record SetsKeys (kinds : AppKinds) (given : Option (List ℕ)) (rows : List Row) (c : ClusterSeed) : Type 0 where
+  pub cluster : SetsCluster kinds DigitsOrRandom given rows c
+  pub written : AsksForRandom DigitsOrRandom rows ↔ NamesFile rows (codes "write-seed")
+
 -- the word that names the statement to sign
 abbrev pub word_of : What → Text
 word_of Report = codes "report"
@@ -359,34 +402,35 @@ pub record SetsServe (kinds : AppKinds) (meaning : Meanings) (given : Option (Li
   pub entries : IsNumberWithin rows (codes "client-entries") 0 65536 s.client_entries
 
 -- the options of `abft audit` set these settings
-pub record SetsAudit (kinds : AppKinds) (given : Option (List ℕ)) (rows : List Row) (s : AuditSettings) : Type 0 where
-  pub cluster : SetsCluster kinds Digits given rows s.cluster
+pub record SetsAudit (kinds : AppKinds) (given : GivenKeys) (rows : List Row) (s : AuditSettings) : Type 0 where
+  pub cluster : SetsKnown kinds given rows s.cluster
   pub receipt : SetsReceipt rows s.receipt
 
 -- the options of `abft draw` set these settings
-pub record SetsDraw (kinds : AppKinds) (given : Option (List ℕ)) (rows : List Row) (s : DrawSettings) : Type 0 where
-  pub cluster : SetsCluster kinds Digits given rows s.cluster
+pub record SetsDraw (kinds : AppKinds) (given : GivenKeys) (rows : List Row) (s : DrawSettings) : Type 0 where
+  pub cluster : SetsKnown kinds given rows s.cluster
   pub height : IsNumberWithin rows (codes "height") 0 4096 s.height
   pub first : IsNumberWithin rows (codes "first") 0 4000000000 s.first
   pub last : IsNumberWithin rows (codes "last") 0 4000000000 s.last
 
--- the subcommand that the words name sets these settings with its options, and with the seed that is given, if they ask for that
-abbrev pub Sets : AppKinds → Meanings → Option (List ℕ) → Option (Text × List Row) → Settings → Type 0
+-- the subcommand that the words name sets these settings with its options, and with the seed or the cluster that is given, if they ask for that
+abbrev pub Sets : AppKinds → Meanings → GivenKeys → Option (Text × List Row) → Settings → Type 0
 Sets kinds meaning given None s = ⊥
-Sets kinds meaning given (Some found) (settings.Sign s) = (found.0 ≡ codes "sign") × SetsSign kinds given found.1 s
-Sets kinds meaning given (Some found) (settings.Deliver s) = (found.0 ≡ codes "deliver") × SetsDeliver kinds meaning given found.1 s
-Sets kinds meaning given (Some found) (settings.Simulate s) = (found.0 ≡ codes "simulate") × SetsSimulate given found.1 s
-Sets kinds meaning given (Some found) (settings.Cluster s) = (found.0 ≡ codes "cluster") × SetsRunning kinds meaning given found.1 s
-Sets kinds meaning given (Some found) (settings.Serve s) = (found.0 ≡ codes "serve") × SetsServe kinds meaning given found.1 s
+Sets kinds meaning given (Some found) (settings.Sign s) = (found.0 ≡ codes "sign") × SetsSign kinds given.seed found.1 s
+Sets kinds meaning given (Some found) (settings.Deliver s) = (found.0 ≡ codes "deliver") × SetsDeliver kinds meaning given.seed found.1 s
+Sets kinds meaning given (Some found) (settings.Simulate s) = (found.0 ≡ codes "simulate") × SetsSimulate given.seed found.1 s
+Sets kinds meaning given (Some found) (settings.Cluster s) = (found.0 ≡ codes "cluster") × SetsRunning kinds meaning given.seed found.1 s
+Sets kinds meaning given (Some found) (settings.Serve s) = (found.0 ≡ codes "serve") × SetsServe kinds meaning given.seed found.1 s
 Sets kinds meaning given (Some found) (settings.Audit s) = (found.0 ≡ codes "audit") × SetsAudit kinds given found.1 s
 Sets kinds meaning given (Some found) (settings.Draw s) = (found.0 ≡ codes "draw") × SetsDraw kinds given found.1 s
+Sets kinds meaning given (Some found) (settings.Keys s) = (found.0 ≡ codes "keys") × SetsKeys kinds given.seed found.1 s
 
--- the words give these settings, with the seed that is given, if they ask for that
-abbrev pub IsSet : ProgramWords → Meanings → Option (List ℕ) → List Text → Settings → Type 0
+-- the words give these settings, with the seed or the cluster that is given, if they ask for that
+abbrev pub IsSet : ProgramWords → Meanings → GivenKeys → List Text → Settings → Type 0
 IsSet program meaning given words s = Sets program.kinds meaning given (subcommand_of (abft_app program) words) s
 
 -- the words are no command line of the program, or give no settings
-abbrev pub IsRefused : ProgramWords → Meanings → Option (List ℕ) → List Text → Type 0
+abbrev pub IsRefused : ProgramWords → Meanings → GivenKeys → List Text → Type 0
 IsRefused program meaning given words = takes (abft_app program) words ≡ true → (s : Settings) → IsSet program meaning given words s → ⊥
 
 -- the fault is that memory ran out, here or in clap
@@ -398,6 +442,9 @@ WantsMemory (fault.Kind word) = ⊥
 WantsMemory (fault.Seed taken word) = ⊥
 WantsMemory (fault.SeedFile file) = ⊥
 WantsMemory fault.TwoSeeds = ⊥
+WantsMemory fault.UnwrittenSeed = ⊥
+WantsMemory (fault.BesideFile option) = ⊥
+WantsMemory (fault.ClusterFile file) = ⊥
 WantsMemory (fault.TooFew replicas faults) = ⊥
 WantsMemory (fault.Spelling option why) = ⊥
 WantsMemory (fault.NoTransaction option word) = ⊥
@@ -419,6 +466,9 @@ AsksForText (fault.Kind word) = ⊥
 AsksForText (fault.Seed taken word) = ⊥
 AsksForText (fault.SeedFile file) = ⊥
 AsksForText fault.TwoSeeds = ⊥
+AsksForText fault.UnwrittenSeed = ⊥
+AsksForText (fault.BesideFile option) = ⊥
+AsksForText (fault.ClusterFile file) = ⊥
 AsksForText (fault.TooFew replicas faults) = ⊥
 AsksForText (fault.Spelling option why) = ⊥
 AsksForText (fault.NoTransaction option word) = ⊥

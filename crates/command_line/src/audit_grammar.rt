@@ -1,11 +1,13 @@
 //! The grammar of `abft audit`.
-use crate::shared_arguments::{APP_KIND, FAULTS, FRAMES, REPLICAS, SEED, SEED_FILE, TREE, WIDTH};
+use crate::shared_arguments::{
+    APP_KIND, CLUSTER_FILE, FAULTS, FRAMES, REPLICAS, SEED, SEED_FILE, TREE, WIDTH,
+};
 use crate::subcommand::{Argument, Kind, Subcommand};
 
 /// The end of `abft audit --help`.
 const FINDINGS: &str = "\
 Input: the histories of N-t replicas or more, as bytes, one after another. 'simulate --histories' prints such bytes,
-and 'cluster --histories FILE' writes them. The options are those of the cluster.
+and 'cluster --histories FILE' writes them. The options are those of the cluster, or --cluster names its public file.
 
 Lines, if the histories are those of one ledger:
   ledger C  the ledger has C blocks
@@ -27,7 +29,7 @@ Exit status:
   0  the histories are those of one ledger, and the receipt, if there is one, holds
   1  'fault', 'bad history' or 'receipt wrong' was printed
   2  a fault of usage
-  3  out of memory, or a failed read or write";
+  3  out of memory, a file that can't be read, or a failed read or write";
 
 /// A receipt to look for.
 const RECEIPT: Argument = Argument {
@@ -42,7 +44,16 @@ pub(crate) const AUDIT: Subcommand = Subcommand {
     about: "Audits the histories of standard input, and prints their one ledger, or the first fault",
     usage: Some("abft audit [OPTIONS] <HISTORIES"),
     arguments: &[
-        REPLICAS, FAULTS, APP_KIND, WIDTH, TREE, FRAMES, SEED, SEED_FILE, RECEIPT,
+        REPLICAS,
+        FAULTS,
+        APP_KIND,
+        WIDTH,
+        TREE,
+        FRAMES,
+        SEED,
+        SEED_FILE,
+        CLUSTER_FILE,
+        RECEIPT,
     ],
     after_help: FINDINGS,
     own_help: None,

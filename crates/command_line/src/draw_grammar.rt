@@ -1,11 +1,14 @@
 //! The grammar of `abft draw`.
-use crate::shared_arguments::{APP_KIND, FAULTS, FRAMES, REPLICAS, SEED, SEED_FILE, TREE, WIDTH};
+use crate::shared_arguments::{
+    APP_KIND, CLUSTER_FILE, FAULTS, FRAMES, REPLICAS, SEED, SEED_FILE, TREE, WIDTH,
+};
 use crate::subcommand::{Argument, Kind, Subcommand};
 
 /// The end of `abft draw --help`.
 const PICTURE: &str = "\
 Input: the histories of replicas, as bytes, one after another. 'simulate --histories' prints such bytes, and
-'cluster --histories FILE' writes them. The options are those of the cluster: histories of version 2 need --frames 2.
+'cluster --histories FILE' writes them. The options are those of the cluster, or --cluster names its public file:
+histories of version 2 need --frames 2, or a file that says so.
 A history is drawn up to its first entry that is not lawful after those before it, or sends what is not signed.
 
 Output: an SVG document, or 'bad history' if the input is not spelled as histories. docs/PICTURES.md says how to read it.
@@ -14,7 +17,7 @@ Exit status:
   0  the picture was written
   1  'bad history' was printed, or a history has such an entry, which standard error names
   2  a fault of usage
-  3  out of memory, or a failed read or write";
+  3  out of memory, a file that can't be read, or a failed read or write";
 
 /// The height that is drawn.
 const HEIGHT: Argument = Argument {
@@ -43,7 +46,18 @@ pub(crate) const DRAW: Subcommand = Subcommand {
     about: "Draws the run of the histories of standard input, as an SVG document",
     usage: Some("abft draw [OPTIONS] <HISTORIES >PICTURE.svg"),
     arguments: &[
-        REPLICAS, FAULTS, APP_KIND, WIDTH, TREE, FRAMES, SEED, SEED_FILE, HEIGHT, FIRST, LAST,
+        REPLICAS,
+        FAULTS,
+        APP_KIND,
+        WIDTH,
+        TREE,
+        FRAMES,
+        SEED,
+        SEED_FILE,
+        CLUSTER_FILE,
+        HEIGHT,
+        FIRST,
+        LAST,
     ],
     after_help: PICTURE,
     own_help: None,

@@ -5,6 +5,7 @@ ghost use Rattle.command_line.specs.Grammar.{at_top, abft_app};
 
 use crate::audit_grammar::AUDIT;
 use crate::draw_grammar::DRAW;
+use crate::keys_grammar::KEYS;
 use crate::running_grammar::{RUN_CLUSTER, SERVE};
 use crate::shared_arguments::{APP_KIND, FAULTS, FRAMES, REPLICAS, SEED, SEED_FILE, TREE, WIDTH};
 use crate::subcommand::{Argument, Kind, Subcommand, clap_commands};
@@ -213,7 +214,16 @@ const SIMULATE: Subcommand = Subcommand {
 };
 
 /// The subcommands, in the order of `abft --help`.
-const SUBCOMMANDS: [Subcommand; 7] = [SIGN, DELIVER, SIMULATE, RUN_CLUSTER, SERVE, AUDIT, DRAW];
+const SUBCOMMANDS: [Subcommand; 8] = [
+    SIGN,
+    DELIVER,
+    SIMULATE,
+    RUN_CLUSTER,
+    SERVE,
+    AUDIT,
+    DRAW,
+    KEYS,
+];
 
 /// The end of the program's help.
 fn example(kinds: AppKinds) -> &'static str {

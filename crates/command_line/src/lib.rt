@@ -3,12 +3,15 @@
 
 mod audit_grammar;
 mod draw_grammar;
+mod given_keys;
 mod grammar;
+mod key_sources;
+mod keys_grammar;
+mod known_clusters;
 mod options;
 mod receipts;
 mod refused_words;
 mod running_grammar;
-mod seed_sources;
 mod seed_words;
 mod seeds;
 mod settings_of_words;
@@ -16,7 +19,8 @@ mod shared_arguments;
 mod subcommand;
 mod usage_fault;
 
-pub use seed_sources::{SeedSource, seed_source};
+pub use given_keys::GivenKeys;
+pub use key_sources::{KeySource, key_source};
 pub use seed_words::SeedWords;
 pub use seeds::seed_of_bytes;
 pub use settings_of_words::settings;

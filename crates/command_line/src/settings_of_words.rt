@@ -5,7 +5,8 @@ ghost use Rattle.ledger_model.specs.declared.config.AppKinds.{AppKinds};
 ghost use Rattle.ledger_model.specs.Meanings.{Meanings};
 ghost use Rattle.command_line.specs.Faults.{IsRightFault, IsRightIn, IsRightOf, kinds_of};
 ghost use Rattle.command_line.specs.Grammar.{abft_app};
-ghost use Rattle.command_line.specs.Options.{HasRunning, IsSet, OptionTable, Sets, SetsAudit, SetsDeliver, SetsRunning, SetsServe, SetsSign, SetsSimulate, WantsMemory, SetsDraw, audit_options, deliver_options, draw_options, serve_options, sign_options, simulate_options};
+ghost use Rattle.command_line.specs.Options.{HasRunning, IsSet, OptionTable, Sets, SetsAudit, SetsDeliver, SetsKeys, SetsRunning, SetsServe, SetsSign, SetsSimulate, WantsMemory, SetsDraw, audit_options, deliver_options, draw_options, keys_options, serve_options, sign_options, simulate_options};
+ghost use Rattle.cluster_setup.specs.declared.cluster_seed.ClusterSeed.{ClusterSeed};
 ghost use Rattle.cluster_setup.specs.declared.sign_settings.SignSettings.{SignSettings};
 ghost use Rattle.cluster_setup.specs.declared.deliver_settings.DeliverSettings.{DeliverSettings};
 ghost use Rattle.cluster_setup.specs.declared.simulate_settings.SimulateSettings.{SimulateSettings};
@@ -15,10 +16,13 @@ ghost use Rattle.cluster_setup.specs.declared.audit_settings.AuditSettings.{Audi
 ghost use Rattle.cluster_setup.specs.declared.draw_settings.DrawSettings.{DrawSettings};
 ghost use Rattle.cluster_setup.specs.declared.settings.Settings.{Settings};
 
+use crate::given_keys::GivenKeys;
 use crate::grammar::abft_command;
+use crate::key_sources::asks_for_random;
+use crate::known_clusters::known_cluster;
 use crate::options::{
-    accepted_transaction, cluster, file, is_named, log_filter, number, optional_port, small_number,
-    transaction, what,
+    accepted_transaction, cluster, file, is_named, log_filter, number, optional_port,
+    optional_text, small_number, transaction, what,
 };
 use crate::receipts::receipt;
 use crate::refused_words::fault_of;
@@ -28,8 +32,8 @@ use crate::usage_fault::UsageFault;
 use app_states::Opening;
 use clap::ArgMatches;
 use cluster_setup::{
-    AuditSettings, ClusterSettings, DeliverSettings, DrawSettings, ServeSettings, Settings,
-    SignSettings, SimulateSettings,
+    AuditSettings, ClusterSeed, ClusterSettings, DeliverSettings, DrawSettings, ServeSettings,
+    Settings, SignSettings, SimulateSettings,
 };
 use ledger_model::{Height, Phase, ReplicaId};
 use std::alloc::Global;
@@ -159,13 +163,13 @@ fn serve_settings<'a, A: Opening>(
 fn audit_settings<'a, A: Opening>(
     alloc: Global,
     matches: &ArgMatches<'a>,
-    given: Option<[u8; 32]>,
+    given: GivenKeys,
 ) -> Result<AuditSettings, UsageFault<'a>>
     ensures some { IfOk result (λ s. SetsAudit A.words.kinds given (rows_of (found_of matches.now)) s) }
     ensures none { IfErr result (λ e. (s : AuditSettings) → SetsAudit A.words.kinds given (rows_of (found_of matches.now)) s → WantsMemory e) }
-    ensures right { (meaning : Meanings) → IfErr result (IsRightOf A.words.kinds meaning given audit_options (rows_of (found_of matches.now))) }
+    ensures right { (meaning : Meanings) → IfErr result (IsRightOf A.words.kinds meaning given.seed audit_options (rows_of (found_of matches.now))) }
 {
-    let cluster = cluster::<A>(matches, SeedWords::Digits, given)?;
+    let cluster = known_cluster::<A>(matches, given)?;
     let receipt = receipt(alloc, matches)?;
     Ok(AuditSettings { cluster, receipt })
 }
@@ -173,13 +177,13 @@ fn audit_settings<'a, A: Opening>(
 /// The settings of `abft draw`, from its matches.
 fn draw_settings<'a, A: Opening>(
     matches: &ArgMatches<'a>,
-    given: Option<[u8; 32]>,
+    given: GivenKeys,
 ) -> Result<DrawSettings, UsageFault<'a>>
     ensures some { IfOk result (λ s. SetsDraw A.words.kinds given (rows_of (found_of matches.now)) s) }
     ensures none { IfErr result (λ e. (s : DrawSettings) → SetsDraw A.words.kinds given (rows_of (found_of matches.now)) s → WantsMemory e) }
-    ensures right { (meaning : Meanings) → IfErr result (IsRightOf A.words.kinds meaning given draw_options (rows_of (found_of matches.now))) }
+    ensures right { (meaning : Meanings) → IfErr result (IsRightOf A.words.kinds meaning given.seed draw_options (rows_of (found_of matches.now))) }
 {
-    let cluster = cluster::<A>(matches, SeedWords::Digits, given)?;
+    let cluster = known_cluster::<A>(matches, given)?;
     let height = number(matches, "height", 0, 4096)?;
     let first = number(matches, "first", 0, 4_000_000_000)?;
     let last = number(matches, "last", 0, 4_000_000_000)?;
@@ -189,6 +193,22 @@ fn draw_settings<'a, A: Opening>(
         first,
         last,
     })
+}
+
+/// The cluster of `abft keys`, from its matches.
+fn keys_settings<'a, A: Opening>(
+    matches: &ArgMatches<'a>,
+    given: Option<[u8; 32]>,
+) -> Result<ClusterSeed, UsageFault<'a>>
+    ensures some { IfOk result (λ c. SetsKeys A.words.kinds given (rows_of (found_of matches.now)) c) }
+    ensures none { OnErr result ((c : ClusterSeed) → SetsKeys A.words.kinds given (rows_of (found_of matches.now)) c → ⊥) }
+    ensures right { (meaning : Meanings) → IfErr result (IsRightOf A.words.kinds meaning given keys_options (rows_of (found_of matches.now))) }
+{
+    let is_random = asks_for_random(matches, SeedWords::DigitsOrRandom);
+    if is_random != optional_text(matches, "write-seed").is_some() {
+        return Err(UsageFault::UnwrittenSeed);
+    }
+    cluster::<A>(matches, SeedWords::DigitsOrRandom, given)
 }
 
 /// The matches of the words, of which the first is the program's name.
@@ -212,23 +232,24 @@ pub(crate) fn matches_of<'a, A: Opening>(
 pub(crate) fn settings_of<'a, A: Opening>(
     alloc: Global,
     matches: &ArgMatches<'a>,
-    given: Option<[u8; 32]>,
+    given: GivenKeys,
 ) -> Result<Settings, UsageFault<'a>>
     ensures set { IfOk result (λ s. Sets A.words.kinds A.meaning given (subcommand_rows_of matches.now) s) }
     ensures refused { IfErr result (λ e. (s : Settings) → Sets A.words.kinds A.meaning given (subcommand_rows_of matches.now) s → WantsMemory e) }
-    ensures right { IfErr result (IsRightIn A.words.kinds A.meaning given (subcommand_rows_of matches.now)) }
+    ensures right { IfErr result (IsRightIn A.words.kinds A.meaning given.seed (subcommand_rows_of matches.now)) }
 {
     let Some((name, options)) = matches.subcommand() else {
         return Err(UsageFault::NoSubcommand);
     };
     match name {
-        "sign" => sign_settings::<A>(alloc, options, given).map(Settings::Sign),
-        "deliver" => deliver_settings::<A>(alloc, options, given).map(Settings::Deliver),
-        "simulate" => simulate_settings(options, given).map(Settings::Simulate),
-        "cluster" => cluster_settings::<A>(alloc, options, given).map(Settings::Cluster),
-        "serve" => serve_settings::<A>(alloc, options, given).map(Settings::Serve),
+        "sign" => sign_settings::<A>(alloc, options, given.seed).map(Settings::Sign),
+        "deliver" => deliver_settings::<A>(alloc, options, given.seed).map(Settings::Deliver),
+        "simulate" => simulate_settings(options, given.seed).map(Settings::Simulate),
+        "cluster" => cluster_settings::<A>(alloc, options, given.seed).map(Settings::Cluster),
+        "serve" => serve_settings::<A>(alloc, options, given.seed).map(Settings::Serve),
         "audit" => audit_settings::<A>(alloc, options, given).map(Settings::Audit),
         "draw" => draw_settings::<A>(options, given).map(Settings::Draw),
+        "keys" => keys_settings::<A>(options, given.seed).map(Settings::Keys),
         _ => Err(UsageFault::NoSubcommand),
     }
 }
@@ -236,12 +257,12 @@ pub(crate) fn settings_of<'a, A: Opening>(
 /// The settings that the words of a command line give. The first word is the program's name.
 ///
 /// Each option has the value that the words give it, or else its default, and is within its limits. An `Err` contains
-/// what is wrong, or the help that the words ask for. The caller gives the seed that was read from the file of `--seed-file` or drawn for
-/// `--seed random`, as [`seed_source`](crate::seed_source) says: without it such words have a fault. Other words don't use it.
+/// what is wrong, or the help that the words ask for. The caller gives the seed or the cluster that the words name a file for, or the seed that
+/// was drawn, as [`key_source`](crate::key_source) says: without it such words have a fault. Other words don't use what is given.
 pub fn settings<'a, A: Opening>(
     alloc: Global,
     words: &'a [&'a str],
-    given: Option<[u8; 32]>,
+    given: GivenKeys,
 ) -> Result<Settings, UsageFault<'a>>
     ensures set { IfOk result (λ s. IsSet A.words A.meaning given (map (λ w. w.now) words.entry.now) s) }
     // The words have no fault, and ask for neither the help nor the version.
@@ -250,7 +271,7 @@ pub fn settings<'a, A: Opening>(
     ensures refused { IfErr result (λ e. takes (abft_app A.words) (map (λ w. w.now) words.entry.now) ≡ true
         → (s : Settings) → IsSet A.words A.meaning given (map (λ w. w.now) words.entry.now) s → WantsMemory e) }
     // What the fault says about the words is true.
-    ensures right { IfErr result (IsRightFault A.words A.meaning given (map (λ w. w.now) words.entry.now)) }
+    ensures right { IfErr result (IsRightFault A.words A.meaning given.seed (map (λ w. w.now) words.entry.now)) }
 {
     let matches = matches_of::<A>(alloc, words)?;
     settings_of::<A>(alloc, &matches, given)

@@ -44,7 +44,8 @@ pub(crate) const FRAMES: Argument = Argument {
 };
 
 /// The seed of all keys if the words give none. It is public.
-const DEFAULT_SEED: &str = "0000000000000000000000000000000000000000000000000000000000000000";
+pub(crate) const DEFAULT_SEED: &str =
+    "0000000000000000000000000000000000000000000000000000000000000000";
 
 /// The seed of all keys.
 pub(crate) const SEED: Argument = Argument {
@@ -65,6 +66,13 @@ pub(crate) const SEED_FILE: Argument = Argument {
     name: "seed-file",
     kind: Kind::Optional,
     help: "The file of the seed, in place of --seed: 64 hexadecimal digits, or 32 bytes",
+};
+
+/// The public file of a cluster.
+pub(crate) const CLUSTER_FILE: Argument = Argument {
+    name: "cluster",
+    kind: Kind::Optional,
+    help: "The public file of the cluster, as 'keys' prints it, in place of all options before this one",
 };
 
 /// The transaction of a run.

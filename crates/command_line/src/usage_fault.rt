@@ -53,6 +53,12 @@ pub enum UsageFault<'a> {
     SeedFile(&'a str),
     /// The words contain `--seed` and `--seed-file`.
     TwoSeeds,
+    /// The words ask for a random seed without `--write-seed`, or contain `--write-seed` without asking for a random seed.
+    UnwrittenSeed,
+    /// The words contain `--cluster` and this option, which the file of `--cluster` stands for.
+    BesideFile(&'static str),
+    /// The word for `--cluster` names no public file of a cluster whose application the program has.
+    ClusterFile(&'a str),
     /// Fewer than `3 * faults + 1` replicas.
     TooFew {
         replicas: u8,
@@ -260,6 +266,23 @@ impl fmt::Display for UsageFault<'_> {
             }
             UsageFault::TwoSeeds => {
                 f.write_str("error: the seed comes from --seed or from --seed-file, not from both")
+            }
+            UsageFault::UnwrittenSeed => f.write_str(
+                "error: --seed random and --write-seed go together: the new seed is kept in that file, or nowhere",
+            ),
+            UsageFault::BesideFile(option) => {
+                show_option(
+                    f,
+                    option,
+                    &"is not taken beside --cluster, whose file says it",
+                )
+            }
+            UsageFault::ClusterFile(file) => {
+                show_wanted(
+                    f,
+                    "--cluster is the public file of a cluster that runs an application of this program",
+                    file,
+                )
             }
             UsageFault::TooFew { replicas, faults } => show_too_few(f, *replicas, *faults),
             UsageFault::Spelling { option, fault } => show_option(f, option, fault),

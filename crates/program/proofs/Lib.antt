@@ -11,4 +11,5 @@ mod ScenarioLemmas
 mod HistoryOutputs
 mod AuditingLemmas
 mod DrawingLemmas
+mod PublishingLemmas
 mod RunningLemmas

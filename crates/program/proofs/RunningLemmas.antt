@@ -3,12 +3,14 @@ use Rattle.app_states.specs.ProgramWords.{ProgramWords}
 use Rattle.ledger_model.specs.declared.config.AppKinds.{AppKinds}
 use Rattle.ledger_model.specs.Meanings.{Meanings}
 use Rattle.std.proofs.Common.{◌≡◌, ℕ, ◌≤◌, List, [], refl, sym, subst, ◌∙◌, inl, inr, arith}
+use Rattle.command_line.specs.declared.given_keys.GivenKeys.{GivenKeys}
 use Rattle.std.specs.Prelude.{◌⊎◌, Option, None, Result, Ok, Err, IfOk, MatchResult}
 use Rattle.std.specs.Io.KnownBytes.{Appends, Keeps}
 use Rattle.std.proofs.KnownBytes.{Appends-kept, Consumes-nil}
 use Rattle.ledger_model.specs.Spelling.{frame_bytes}
 use Rattle.cluster_setup.specs.declared.settings.Settings.{Settings}
-use Rattle.cluster_setup.specs.declared.settings.Settings.TheVariants.{Sign, Deliver, Simulate, Audit, Draw, Cluster, Serve}
+use Rattle.cluster_setup.specs.declared.settings.Settings.TheVariants.{Sign, Deliver, Simulate, Audit, Draw, Cluster, Serve, Keys}
+use Rattle.cluster_setup.specs.declared.cluster_seed.ClusterSeed.{ClusterSeed}
 use Rattle.cluster_setup.specs.declared.sign_settings.SignSettings.{SignSettings}
 use Rattle.cluster_setup.specs.declared.deliver_settings.DeliverSettings.{DeliverSettings}
 use Rattle.cluster_setup.specs.declared.simulate_settings.SimulateSettings.{SimulateSettings}
@@ -31,6 +33,7 @@ use Rattle.program.specs.declared.text_end.TextEnd.TheVariants as scenario
 use Rattle.program.specs.Simulating.{PlaysText, PlaysTextSome}
 use Rattle.program.specs.Auditing.{Audits, AuditsSome}
 use Rattle.program.specs.Drawing.{Draws, DrawsSome}
+use Rattle.program.specs.Publishing.{IsFileOf}
 use Rattle.program.proofs.DrawingLemmas.{drawn_small}
 use Rattle.program.proofs.AuditingLemmas.{audited_small}
 use Rattle.program.specs.declared.outcome.Conclusion.{Conclusion}
@@ -127,6 +130,22 @@ draw_explains x s (Ok ending) is (inl none) = inl none
 draw_explains x s (Ok ending) is (inr one) = inr (one, subst (λ y. FollowsHistories (settings_of y)) (sym is) tt)
 draw_explains x s (Err fault) is explains = tt
 
+-- the public file of a cluster was written
+pub published_done : (kinds : AppKinds) (meaning : Meanings) (x : Piped) (c : ClusterSeed) (status : ℕ) (unread before after : Option (List ℕ))
+    → x ≡ piped.Keys c → status ≡ 0
+    → (text : List ℕ) × (IsFileOf c text × Appends before after text) → Done kinds meaning (settings_of x) status unread unread before after
+published_done kinds meaning x c status unread before after is zero (text, (file, written)) =
+    subst (λ y. Done kinds meaning (settings_of y) status unread unread before after) (sym is)
+    (zero, record { input = []; text = text; goes_with = (refl, file); read = Consumes-nil unread; written = written })
+
+-- a part of it was, or nothing
+pub published_halted : (kinds : AppKinds) (meaning : Meanings) (x : Piped) (c : ClusterSeed) (unread before after : Option (List ℕ))
+    → x ≡ piped.Keys c
+    → (text : List ℕ) × (((text ≡ []) ⊎ IsFileOf c text) × AppendsSome before after text) → Halted kinds meaning (settings_of x) unread unread before after
+published_halted kinds meaning x c unread before after is (text, (part, written)) =
+    subst (λ y. Halted kinds meaning (settings_of y) unread unread before after) (sym is)
+    (record { input = []; text = text; goes_with = (refl, part); read = Consumes-nil unread; written = written })
+
 -- all was written, and then flushed
 responds_kept : (P : List ℕ → List ℕ → Type 0) (unread left before mid after : Option (List ℕ)) → Responds P unread left before mid
     → Keeps mid after → Responds P unread left before after
@@ -151,6 +170,8 @@ done_flushed kinds meaning (piped.Audit s) status unread left before mid after (
     (to_end, responds_kept _ unread left before mid after done keeps)
 done_flushed kinds meaning (piped.Draw s) status unread left before mid after (to_end, done) keeps =
     (to_end, responds_kept _ unread left before mid after done keeps)
+done_flushed kinds meaning (piped.Keys c) status unread left before mid after (is, done) keeps =
+    (is, responds_kept _ unread left before mid after done keeps)
 
 -- all was written, and then a flush failed
 pub done_halted : (kinds : AppKinds) (meaning : Meanings) (x : Piped) (status : ℕ) (unread left before mid after : Option (List ℕ))
@@ -165,6 +186,8 @@ done_halted kinds meaning (piped.Audit s) status unread left before mid after (t
     responds_some _ _ unread left before mid after (λ input text does. inr (to_end, (status, does))) done keeps
 done_halted kinds meaning (piped.Draw s) status unread left before mid after (to_end, done) keeps =
     responds_some _ _ unread left before mid after (λ input text does. inr (to_end, (status, does))) done keeps
+done_halted kinds meaning (piped.Keys c) status unread left before mid after (is, done) keeps =
+    responds_some _ _ unread left before mid after (λ input text does. (does.0, inr does.1)) done keeps
 
 -- a status of what was done is 0 or 1
 stream_small : (end : StreamEnd) → status_of_stream end ≤ 1
@@ -185,6 +208,7 @@ done_small kinds meaning (Audit s) status unread left before after
     (to_end, done) = audited_small meaning s done.input status done.text done.goes_with
 done_small kinds meaning (Draw s) status unread left before after (to_end, done) = drawn_small meaning s done.input status done.text
     done.goes_with
+done_small kinds meaning (Keys c) status unread left before after (is, done) = omega (arith, is)
 done_small kinds meaning (Cluster s) status unread left before after done = absurd done
 done_small kinds meaning (Serve s) status unread left before after done = absurd done
 
@@ -214,7 +238,7 @@ settled kinds meaning s x (Ok ending) status unread left before after mute told 
 settled kinds meaning s x (Err e) status unread left before after mute told same halted explains is =
     inr (is, subst (λ y. Halted kinds meaning y unread left before after) same halted)
 
-module _ (program : ProgramWords) (meaning : Meanings) (given : Option (List ℕ)) (words : List (List ℕ)) (s : Settings) (set : IsSet program meaning given words s) (taken : kinds_of program words ≡ [])
+module _ (program : ProgramWords) (meaning : Meanings) (given : GivenKeys) (words : List (List ℕ)) (s : Settings) (set : IsSet program meaning given words s) (taken : kinds_of program words ≡ [])
     (status : ℕ)
     (unread left before after : Option (List ℕ)) where
   pub settled_finishes : (Q : Type 0) → Settled program.kinds meaning s status unread left before after Q → (status ≡ 0) ⊎ (status ≡ 1)
@@ -267,6 +291,9 @@ asks_no_memory (fault.Kind word) asks wants = asks
 asks_no_memory (fault.Seed taken word) asks wants = asks
 asks_no_memory (fault.SeedFile file) asks wants = asks
 asks_no_memory fault.TwoSeeds asks wants = asks
+asks_no_memory fault.UnwrittenSeed asks wants = asks
+asks_no_memory (fault.BesideFile option) asks wants = asks
+asks_no_memory (fault.ClusterFile file) asks wants = asks
 asks_no_memory (fault.TooFew replicas faults) asks wants = asks
 asks_no_memory (fault.Spelling option why) asks wants = asks
 asks_no_memory (fault.NoTransaction option word) asks wants = asks
@@ -279,10 +306,10 @@ asks_no_memory (fault.Missing option) asks wants = asks
 asks_no_memory fault.NoSubcommand asks wants = asks
 asks_no_memory fault.NoMemory asks wants = asks
 
-module _ (program : ProgramWords) (meaning : Meanings) (given : Option (List ℕ)) (words : List (List ℕ)) (f : UsageFault) (status : ℕ) (Q K : Type 0) (right : IsRightFault program meaning given words f)
+module _ (program : ProgramWords) (meaning : Meanings) (given : GivenKeys) (words : List (List ℕ)) (f : UsageFault) (status : ℕ) (Q K : Type 0) (right : IsRightFault program meaning given.seed words f)
     (refused : (WantsMemory f → ⊥) → IsRefused program meaning given words) where
   pub told_finishes : HelpOrFault f status Q K → (status ≡ 0) ⊎ (status ≡ 1) → IsRefused program meaning given words × (AskForHelp program words × (status ≡ 0))
-  told_finishes (inl (asks, inl (zero, quiet))) small = (refused (asks_no_memory f asks), (asked program meaning given words f right asks, zero))
+  told_finishes (inl (asks, inl (zero, quiet))) small = (refused (asks_no_memory f asks), (asked program meaning given.seed words f right asks, zero))
   told_finishes (inl (asks, inr three)) (inl zero) = absurd (omega (arith, zero, three))
   told_finishes (inl (asks, inr three)) (inr one) = absurd (omega (arith, one, three))
   told_finishes (inr (kept, inl (two, enough))) (inl zero) = absurd (omega (arith, zero, two))
@@ -302,11 +329,11 @@ module _ (program : ProgramWords) (meaning : Meanings) (given : Option (List ℕ
   pub told_refuses : HelpOrFault f status Q K → status ≡ 2 → IsRefused program meaning given words × ((AskForHelpAlone program words → ⊥) × K)
   told_refuses (inl (asks, inl (zero, quiet))) is = absurd (omega (arith, is, zero))
   told_refuses (inl (asks, inr three)) is = absurd (omega (arith, is, three))
-  told_refuses (inr ((other, kept), inl (two, enough))) is = (refused enough, (not_alone program meaning given words f right other enough, kept))
+  told_refuses (inr ((other, kept), inl (two, enough))) is = (refused enough, (not_alone program meaning given.seed words f right other enough, kept))
   told_refuses (inr (kept, inr three)) is = absurd (omega (arith, is, three))
 
   pub told_stops : HelpOrFault f status Q K → status ≡ 3 → K ⊎ (IsRefused program meaning given words × AskForHelp program words)
-  told_stops (inl (asks, told)) is = inr (refused (asks_no_memory f asks), asked program meaning given words f right asks)
+  told_stops (inl (asks, told)) is = inr (refused (asks_no_memory f asks), asked program meaning given.seed words f right asks)
   told_stops (inr ((other, kept), told)) is = inl kept
 
   pub told_known : HelpOrFault f status Q K → status ≤ 3

@@ -3,7 +3,7 @@ use Rattle.ledger_model.specs.Meanings.{Meanings}
 use Rattle.std.specs.Prelude.{◌≡◌, ℕ, Bool, false, List, ◌++◌, Option, Some, None, Result, Ok, Err}
 use Rattle.ledger_model.specs.declared.history.History.{History}
 use Rattle.ledger_model.specs.Values.{Value}
-use Rattle.cluster_setup.specs.Keys.{ring_of}
+use Rattle.cluster_setup.specs.KnownClusters.{known_config, known_ring}
 use Rattle.history_audit.specs.declared.fault.AuditFault.{AuditFault}
 use Rattle.history_audit.specs.Findings.{IsFinding}
 use Rattle.printed_lines.specs.AuditLines.{finding_status, finding_text, has_receipt, receipt_line}
@@ -30,14 +30,14 @@ audit_status finding receipt = finding_status finding
 -- an audit of these histories has this status, and this is printed of what it finds
 pub record Audited (meaning : Meanings) (s : AuditSettings) (histories : List History) (status : ℕ) (text : List ℕ) : Type 0 where
   pub finding : Result (List Value) AuditFault
-  pub found : IsFinding meaning s.cluster.config (ring_of s.cluster) histories finding
+  pub found : IsFinding meaning (known_config s.cluster) (known_ring s.cluster) histories finding
   pub ends : status ≡ audit_status finding (receipt_check s.receipt histories)
   pub shows : text ≡ audit_text finding (receipt_check s.receipt histories)
 
 -- the whole input was read, and what is printed for it was written
 abbrev pub Audits : Meanings → AuditSettings → ℕ → Option (List ℕ) → Option (List ℕ) → Option (List ℕ) → Option (List ℕ) → Type 0
-Audits meaning s status unread left before after = Outputs s.cluster.config.frames (Audited meaning s) status unread left before after
+Audits meaning s status unread left before after = Outputs (known_config s.cluster).frames (Audited meaning s) status unread left before after
 
 -- nothing was written, or the whole input was read, and a prefix of what is printed for it was written
 abbrev pub AuditsSome : Meanings → AuditSettings → Option (List ℕ) → Option (List ℕ) → Option (List ℕ) → Option (List ℕ) → Type 0
-AuditsSome meaning s unread left before after = OutputsSome s.cluster.config.frames (Audited meaning s) unread left before after
+AuditsSome meaning s unread left before after = OutputsSome (known_config s.cluster).frames (Audited meaning s) unread left before after

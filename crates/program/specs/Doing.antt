@@ -10,6 +10,7 @@ use Rattle.cluster_setup.specs.declared.settings.Settings.TheVariants as setting
 use Rattle.cluster_setup.specs.declared.sign_settings.SignSettings.{SignSettings}
 use Rattle.command_line.specs.Faults.{kinds_of}
 use Rattle.command_line.specs.Options.{IsSet}
+use Rattle.command_line.specs.declared.given_keys.GivenKeys.{GivenKeys}
 use Rattle.program.specs.Statements.{signed}
 use Rattle.byte_streams.specs.Responding.{Responds, RespondsSome}
 use Rattle.program.specs.declared.stream_end.StreamEnd.{StreamEnd}
@@ -20,6 +21,7 @@ use Rattle.program.specs.declared.text_end.TextEnd.TheVariants as scenario
 use Rattle.program.specs.Simulating.{PlaysText, PlaysTextSome}
 use Rattle.program.specs.Auditing.{Audits, AuditsSome}
 use Rattle.program.specs.Drawing.{Draws, DrawsSome}
+use Rattle.program.specs.Publishing.{PrintsFile, PrintsFileSome}
 use Rattle.program.specs.declared.outcome.Conclusion.{Conclusion}
 use Rattle.program.specs.declared.outcome.Outcome.{Outcome}
 use Rattle.program.specs.declared.outcome.Outcome.TheVariants as outcome
@@ -43,7 +45,7 @@ PrintsFrame s input text = (input ≡ []) × (text ≡ frame_bytes (signed s))
 -- The settings, which need only streams, were done with this status. `abft sign` wrote its frame. `abft deliver` read
 -- the stream as far as its end or its first fault, and wrote a line for each frame. `abft simulate` read the text to
 -- its end and wrote what its scenario gives, or read it as far as its first bad line is certain. `abft audit` read all
--- histories and wrote what it found, and `abft draw` wrote a picture of them.
+-- histories and wrote what it found, and `abft draw` wrote a picture of them. `abft keys` wrote the cluster's public file.
 abbrev pub Done : AppKinds → Meanings → Settings → ℕ → Option (List ℕ) → Option (List ℕ) → Option (List ℕ) → Option (List ℕ) → Type 0
 Done kinds meaning (settings.Sign s) status unread left before after = (status ≡ 0) × Responds (PrintsFrame s) unread left before after
 Done kinds meaning (settings.Deliver s) status unread left before after =
@@ -52,6 +54,7 @@ Done kinds meaning (settings.Simulate s) status unread left before after =
     (end : TextEnd) × ((status ≡ status_of_text end) × PlaysText kinds meaning s end unread left before after)
 Done kinds meaning (settings.Audit s) status unread left before after = Audits meaning s status unread left before after
 Done kinds meaning (settings.Draw s) status unread left before after = Draws meaning s status unread left before after
+Done kinds meaning (settings.Keys c) status unread left before after = (status ≡ 0) × Responds (PrintsFile c) unread left before after
 Done kinds meaning (settings.Cluster s) status unread left before after = ⊥
 Done kinds meaning (settings.Serve s) status unread left before after = ⊥
 
@@ -62,11 +65,12 @@ Halted kinds meaning (settings.Deliver s) unread left before after = DeliversStr
 Halted kinds meaning (settings.Simulate s) unread left before after = PlaysTextSome kinds meaning s unread left before after
 Halted kinds meaning (settings.Audit s) unread left before after = AuditsSome meaning s unread left before after
 Halted kinds meaning (settings.Draw s) unread left before after = DrawsSome meaning s unread left before after
+Halted kinds meaning (settings.Keys c) unread left before after = RespondsSome (PrintsFileSome c) unread left before after
 Halted kinds meaning (settings.Cluster s) unread left before after = ⊥
 Halted kinds meaning (settings.Serve s) unread left before after = ⊥
 
 -- settings that the words ask for were done, with this status
-pub record Performs (program : ProgramWords) (meaning : Meanings) (given : Option (List ℕ)) (words : List (List ℕ)) (status : ℕ) (unread left before after : Option (List ℕ)) : Type 0 where
+pub record Performs (program : ProgramWords) (meaning : Meanings) (given : GivenKeys) (words : List (List ℕ)) (status : ℕ) (unread left before after : Option (List ℕ)) : Type 0 where
   pub settings : Settings
   pub set : IsSet program meaning given words settings
   -- the words have no fault, and ask for neither the help nor the version
@@ -74,7 +78,7 @@ pub record Performs (program : ProgramWords) (meaning : Meanings) (given : Optio
   pub done : Done program.kinds meaning settings status unread left before after
 
 -- settings that the words ask for were begun
-pub record StartsRun (program : ProgramWords) (meaning : Meanings) (given : Option (List ℕ)) (words : List (List ℕ)) (unread left before after : Option (List ℕ)) : Type 0 where
+pub record StartsRun (program : ProgramWords) (meaning : Meanings) (given : GivenKeys) (words : List (List ℕ)) (unread left before after : Option (List ℕ)) : Type 0 where
   pub settings : Settings
   pub set : IsSet program meaning given words settings
   -- the words have no fault, and ask for neither the help nor the version
@@ -106,6 +110,7 @@ settings_of (piped.Deliver s) = settings.Deliver s
 settings_of (piped.Simulate s) = settings.Simulate s
 settings_of (piped.Audit s) = settings.Audit s
 settings_of (piped.Draw s) = settings.Draw s
+settings_of (piped.Keys c) = settings.Keys c
 
 -- the settings are those of an audit or of a picture, which follow histories
 abbrev pub FollowsHistories : Settings → Type 0
@@ -114,7 +119,7 @@ FollowsHistories (settings.Draw s) = ⊤
 FollowsHistories _ = ⊥
 
 -- the words ask for an audit or for a picture
-abbrev pub AsksForHistories : ProgramWords → Meanings → Option (List ℕ) → List (List ℕ) → Type 0
+abbrev pub AsksForHistories : ProgramWords → Meanings → GivenKeys → List (List ℕ) → Type 0
 AsksForHistories program meaning given words = (s : Settings) × (IsSet program meaning given words s × FollowsHistories s)
 
 -- nothing is explained, but where histories were followed and the status is 1

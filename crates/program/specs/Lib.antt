@@ -6,5 +6,6 @@ pub mod Simulating
 pub mod HistoryInput
 pub mod Auditing
 pub mod Drawing
+pub mod Publishing
 pub mod Doing
 pub mod Statements

@@ -1,6 +1,6 @@
 //! `abft audit`: reads histories, audits them, and writes what it finds.
 ghost use Rattle.std.specs.Prelude.{◌≡◌, ◌⊎◌, Bool, Option, None, MatchResult, IfErr, IfOk};
-ghost use Rattle.cluster_setup.specs.Keys.{ring_of};
+ghost use Rattle.cluster_setup.specs.KnownClusters.{known_config, known_ring};
 ghost use Rattle.history_audit.specs.Findings.{IsFinding};
 ghost use Rattle.byte_streams.specs.Faults.{IsMemoryOrAsked, IsMemoryOrRandom};
 ghost use Rattle.program.specs.HistoryInput.{OutputsDone, OutputsDoneSome};
@@ -11,7 +11,7 @@ use crate::outcome::Conclusion;
 use crate::status::BAD_INPUT;
 use app_states::Opening;
 use byte_streams::{ProgramFault, write_output};
-use cluster_setup::{AuditSettings, ClusterSeed, all_keys};
+use cluster_setup::{AuditSettings, KnownCluster, all_keys};
 use history_audit::{AuditFault, are_of_a_quorum, audited};
 use ledger_model::{Config, History, Ledger};
 use printed_lines::{Text, add_finding, add_receipt, explanation, finding_status, has_receipt};
@@ -70,21 +70,28 @@ fn explained(
     }
 }
 
-/// What an audit of the histories finds under the public keys of the cluster, which are made only if the count is right.
+/// What an audit of the histories finds under the public keys of the cluster. From a seed these are computed only if the count is right.
 fn found<A: Opening, S: RandomSource>(
     source: &S,
     alloc: Global,
-    cluster: &ClusterSeed,
+    cluster: &KnownCluster,
     histories: &[History],
 ) -> Result<Result<Ledger, AuditFault>, ProgramFault>
-    ensures finds { IfOk result (λ finding. IsFinding A.meaning cluster.now.config (ring_of cluster.now) histories.now finding) }
+    ensures finds { IfOk result (λ finding. IsFinding A.meaning (known_config cluster.now) (known_ring cluster.now) histories.now finding) }
     ensures fault { IfErr result IsMemoryOrRandom }
 {
-    if !are_of_a_quorum(&cluster.config, histories) {
+    if !are_of_a_quorum(cluster.config(), histories) {
         return Ok(Err(AuditFault::Count));
     }
-    let keys = all_keys(alloc, cluster)?;
-    audited::<A, S>(source, alloc, &cluster.config, &keys.ring, histories)
+    match cluster {
+        KnownCluster::BySeed(seeded) => {
+            let keys = all_keys(alloc, seeded)?;
+            audited::<A, S>(source, alloc, &seeded.config, &keys.ring, histories)
+        }
+        KnownCluster::ByKeys(public) => {
+            audited::<A, S>(source, alloc, &public.config, &public.ring, histories)
+        }
+    }
 }
 
 /// Audits histories and writes what it finds.
@@ -104,7 +111,7 @@ fn audit_histories<A: Opening, S: RandomSource, W: Write>(
     let finding = found::<A, S>(source, alloc, &settings.cluster, histories)?;
     let receipt = check_receipt(settings, histories);
     let text = text_of(alloc, &finding, receipt)?;
-    let explanation = explained(alloc, &settings.cluster.config, histories, &finding)?;
+    let explanation = explained(alloc, settings.cluster.config(), histories, &finding)?;
     write_output(writer, text.as_bytes())?;
     Ok(Conclusion {
         status: status_of(&finding, receipt),
@@ -112,7 +119,7 @@ fn audit_histories<A: Opening, S: RandomSource, W: Write>(
     })
 }
 
-/// Reads the histories of a stream to its end, audits them under the keys of the settings' cluster, and writes what it finds:
+/// Reads the histories of a stream to its end, audits them under the public keys of the settings' cluster, and writes what it finds:
 /// the ledger and whether the receipt holds, or the first fault. If the bytes are no histories, it writes that. The random
 /// bytes are the keys of hashes.
 ///
@@ -133,7 +140,7 @@ pub fn audit<A: Opening, S: RandomSource, R: Read, W: Write>(
     ensures explains { IfOk result (λ ending. (ending.explanation ≡ None) ⊎ (ending.status ≡ 1)) }
     ensures fault { IfErr result IsMemoryOrAsked }
 {
-    match read_history_input(alloc, settings.cluster.config.frames, reader)? {
+    match read_history_input(alloc, settings.cluster.config().frames, reader)? {
         Some(histories) => audit_histories::<A, S, W>(source, alloc, settings, &histories, writer),
         None => print_bad_history(writer),
     }

@@ -1,6 +1,6 @@
 //! `abft draw`: reads histories, and writes a picture of their run.
 ghost use Rattle.std.specs.Prelude.{◌≡◌, ◌⊎◌, None, MatchResult, IfErr, IfOk};
-ghost use Rattle.cluster_setup.specs.Keys.{ring_of};
+ghost use Rattle.cluster_setup.specs.KnownClusters.{known_config, known_ring};
 ghost use Rattle.byte_streams.specs.Faults.{IsMemoryOrAsked, IsMemoryOrRandom};
 ghost use Rattle.run_picture.specs.Pictures.{IsPictureOf};
 ghost use Rattle.program.specs.HistoryInput.{OutputsDone, OutputsDoneSome};
@@ -11,7 +11,7 @@ use crate::outcome::Conclusion;
 use crate::status::{BAD_INPUT, DONE};
 use app_states::{Opening, new_apps};
 use byte_streams::{ProgramFault, new_random_key, write_output};
-use cluster_setup::{DrawSettings, all_keys};
+use cluster_setup::{DrawSettings, KnownCluster, all_keys};
 use history_audit::AuditFault;
 use ledger_model::{Config, Height, History};
 use printed_lines::explanation;
@@ -43,16 +43,23 @@ fn drawn<A: Opening, S: RandomSource>(
     settings: &DrawSettings,
     histories: &[History],
 ) -> Result<Picture, ProgramFault>
-    ensures shows { IfOk result (IsPictureOf A.meaning settings.now.cluster.config (ring_of settings.now.cluster) histories.now
+    ensures shows { IfOk result (IsPictureOf A.meaning (known_config settings.now.cluster) (known_ring settings.now.cluster) histories.now
         (part_of settings.now)) }
     ensures fault { IfErr result IsMemoryOrRandom }
 {
-    let config = &settings.cluster.config;
+    let config = settings.cluster.config();
     let part = part_of(settings);
-    let keys = all_keys(alloc, &settings.cluster)?;
     let apps = new_apps::<A>(alloc, config.kind, usize::from(config.replicas))?;
     let random = new_random_key(source)?;
-    let picture = picture_of(alloc, config, &keys.ring, histories, apps, part, random)?;
+    let picture = match &settings.cluster {
+        KnownCluster::BySeed(seeded) => {
+            let keys = all_keys(alloc, seeded)?;
+            picture_of(alloc, config, &keys.ring, histories, apps, part, random)?
+        }
+        KnownCluster::ByKeys(public) => {
+            picture_of(alloc, config, &public.ring, histories, apps, part, random)?
+        }
+    };
     Ok(picture)
 }
 
@@ -103,7 +110,7 @@ fn draw_histories<A: Opening, S: RandomSource, W: Write>(
 {
     let picture = drawn::<A, S>(source, alloc, settings, histories)?;
     let svg = svg_of(alloc, &picture)?;
-    let explanation = explained(alloc, &settings.cluster.config, histories, &picture)?;
+    let explanation = explained(alloc, settings.cluster.config(), histories, &picture)?;
     write_output(writer, &svg)?;
     Ok(Conclusion {
         status: status_of(&picture),
@@ -111,7 +118,7 @@ fn draw_histories<A: Opening, S: RandomSource, W: Write>(
     })
 }
 
-/// Reads the histories of a stream to its end, follows them under the keys of the settings' cluster, and writes a picture of their run.
+/// Reads the histories of a stream to its end, follows them under the public keys of the settings' cluster, and writes a picture of their run.
 /// Each history is drawn as far as it is a replay. If the bytes are no histories, it writes that. The random bytes are the keys of hashes.
 ///
 /// The end has a sentence about the first history that isn't a replay.
@@ -131,7 +138,7 @@ pub fn draw<A: Opening, S: RandomSource, R: Read, W: Write>(
     ensures explains { IfOk result (λ ending. (ending.explanation ≡ None) ⊎ (ending.status ≡ 1)) }
     ensures fault { IfErr result IsMemoryOrAsked }
 {
-    match read_history_input(alloc, settings.cluster.config.frames, reader)? {
+    match read_history_input(alloc, settings.cluster.config().frames, reader)? {
         Some(histories) => draw_histories::<A, S, W>(source, alloc, settings, &histories, writer),
         None => print_bad_history(writer),
     }

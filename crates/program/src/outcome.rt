@@ -3,8 +3,8 @@ ghost use Rattle.std.specs.Prelude.{◌≡◌, None, MatchResult};
 ghost use Rattle.program.specs.Doing.{IsHanded, settings_of};
 
 use cluster_setup::{
-    AuditSettings, ClusterSettings, DeliverSettings, DrawSettings, ServeSettings, Settings,
-    SignSettings, SimulateSettings,
+    AuditSettings, ClusterSeed, ClusterSettings, DeliverSettings, DrawSettings, ServeSettings,
+    Settings, SignSettings, SimulateSettings,
 };
 
 /// How far the program came with what its words ask for.
@@ -48,6 +48,7 @@ pub(crate) enum Piped {
     Simulate(SimulateSettings),
     Audit(AuditSettings),
     Draw(DrawSettings),
+    Keys(ClusterSeed),
 }
 
 impl Piped {
@@ -61,6 +62,7 @@ impl Piped {
             Settings::Simulate(settings) => Ok(Piped::Simulate(settings)),
             Settings::Audit(settings) => Ok(Piped::Audit(settings)),
             Settings::Draw(settings) => Ok(Piped::Draw(settings)),
+            Settings::Keys(cluster) => Ok(Piped::Keys(cluster)),
             Settings::Cluster(settings) => Err(Outcome::Cluster(settings)),
             Settings::Serve(settings) => Err(Outcome::Serve(settings)),
         }

@@ -14,6 +14,7 @@ use crate::auditing::audit;
 use crate::delivering::deliver;
 use crate::drawing::draw;
 use crate::outcome::{Conclusion, Outcome, Piped};
+use crate::publishing::publish;
 use crate::signing::signed_frame;
 use crate::simulating::simulate;
 use crate::status::{BAD_INPUT, BAD_USAGE, DONE};
@@ -24,7 +25,7 @@ use byte_streams::{
     ProgramFault, Resource, STOPPED, complain, flush_output, print, write_output, write_whole,
 };
 use cluster_setup::{Settings, SignSettings};
-use command_line::{UsageFault, settings};
+use command_line::{GivenKeys, UsageFault, settings};
 use std::alloc::Global;
 use std::io::{self, ErrorKind, Read, Write};
 use std::random::RandomSource;
@@ -34,16 +35,16 @@ use std::random::RandomSource;
 /// to `faults` what is wrong, and at 1 a sentence about a fault that an audit found. The random bytes of `source` are the keys of
 /// hashes. If the words ask for a running cluster, it does nothing and returns the settings. The replicas run the application `A`.
 ///
-/// The caller gives the seed of all keys where the words name a file for it or ask for a random one, as
-/// [`seed_source`](command_line::seed_source) says.
+/// The caller gives the seed or the cluster that the words name a file for, or the seed that they ask to be drawn, as
+/// [`key_source`](command_line::key_source) says.
 ///
 /// No clause can speak of the real stdin and stdout, nor of what a file has. The contract holds for every reader and writer whose bytes a
-/// clause can name, and for every seed that is given.
+/// clause can name, and for every seed and cluster that is given.
 pub fn run<A: Opening, S: RandomSource, R: Read, W: Write, F: Write>(
     source: &S,
     alloc: Global,
     words: &[&str],
-    given: Option<[u8; 32]>,
+    given: GivenKeys,
     reader: &mut R,
     writer: &mut W,
     faults: &mut F,
@@ -179,6 +180,10 @@ fn perform<A: Opening, S: RandomSource, R: Read, W: Write>(
         }
         Piped::Audit(settings) => audit::<A, S, R, W>(source, alloc, settings, reader, writer),
         Piped::Draw(settings) => draw::<A, S, R, W>(source, alloc, settings, reader, writer),
+        Piped::Keys(cluster) => {
+            publish(alloc, cluster, writer)?;
+            Ok(Conclusion::plain(DONE))
+        }
     }
 }
 

@@ -5,5 +5,5 @@ pub(crate) const DONE: u8 = 0;
 /// The input was cut, or is no stream of frames, no scenario and no histories; an audit found a fault or a wrong receipt, or a picture a
 /// history that is no replay.
 pub(crate) const BAD_INPUT: u8 = 1;
-/// The words are no command line.
-pub(crate) const BAD_USAGE: u8 = 2;
+/// The words are no command line, or name a file that is none of a cluster.
+pub const BAD_USAGE: u8 = 2;

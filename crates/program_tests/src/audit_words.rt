@@ -1,5 +1,5 @@
 //! The settings that the words of `abft audit` give, and the words that spell no receipt.
-use crate::setting_lines::is_set_by;
+use crate::setting_lines::{is_set_by, seed_alone};
 use app_kinds::AnyKind;
 use command_line::{UsageFault, settings};
 use std::alloc::Global;
@@ -39,7 +39,11 @@ fn the_words_of_audit_set_each_option(rt: HostRuntime) {
 
 /// Whether the word is refused as no receipt.
 fn is_no_receipt(alloc: Global, word: &str) -> bool {
-    match settings::<AnyKind>(alloc, &["abft", "audit", "--receipt", word], None) {
+    match settings::<AnyKind>(
+        alloc,
+        &["abft", "audit", "--receipt", word],
+        seed_alone(None),
+    ) {
         Err(UsageFault::Receipt(told)) => told == word,
         _ => false,
     }

@@ -1,4 +1,5 @@
 //! Faults of the program: each has a status, and a text that is written with one write. What is printed is flushed.
+use crate::setting_lines::seed_alone;
 use crate::streams::{Sink, Source};
 use app_kinds::AnyKind;
 use program::{Outcome, refuse_words, run};
@@ -7,7 +8,7 @@ use std::io::{self, ErrorKind};
 use std::random::RandomSource;
 
 /// The outcome of the program on these words, if reading fails at once.
-fn outcome_of<S: RandomSource>(
+pub(crate) fn outcome_of<S: RandomSource>(
     source: &S,
     alloc: Global,
     words: &[&str],
@@ -18,7 +19,7 @@ fn outcome_of<S: RandomSource>(
         source,
         alloc,
         words,
-        None,
+        seed_alone(None),
         &mut Source::new(b"", true),
         output,
         faults,

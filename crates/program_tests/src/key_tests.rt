@@ -10,7 +10,7 @@ use std::process::Abort;
 use std::test::Fail;
 
 /// The public keys of replicas 0 to 3 under the seed of 32 zeros, with W4 and H5.
-const PUBLIC_KEYS: [&str; 4] = [
+pub(crate) const PUBLIC_KEYS: [&str; 4] = [
     "0000000500000003eb142b0cae0baa72a767ebc0823d1be9d6c2507d2ec8ff28841676d189d72a81a798345dea50263fd12fb9c4b0df5d2b",
     "000000050000000343b9847adfd48a8699d4d494fd7a4ca087f4199325a513c704a728a65ad1ad77358cb9288f1d97f4d219bd0a846d3b99",
     "0000000500000003dc69a7ca35555475677468dfdbaab447547b13d1a3b48079f80f707fabcdd6b7768ec57203ce94da495067258960ff64",

@@ -12,6 +12,8 @@ mod fault_tests;
 #[cfg(test)]
 mod key_tests;
 #[cfg(test)]
+mod public_file_tests;
+#[cfg(test)]
 mod random_tests;
 #[cfg(test)]
 mod running_words;

@@ -1,7 +1,7 @@
-//! The seed of all keys: in the words, in a file that they name, or drawn; and what of a file is a seed.
+//! The seed of all keys: in the words, in a file that they name, or drawn; the file of a cluster; and what of a file is a seed.
 use crate::setting_lines::is_set_with;
 use app_kinds::AnyKind;
-use command_line::{SeedSource, seed_of_bytes, seed_source};
+use command_line::{KeySource, key_source, seed_of_bytes};
 use std::alloc::{AllocError, Global};
 
 /// What is wrong with the words of a line that name no file with a seed.
@@ -63,15 +63,15 @@ fn a_seed_that_is_given_is_taken_where_it_is_asked_for(rt: HostRuntime) {
 }
 
 /// Whether the seed of these words comes from here.
-fn comes_from(alloc: Global, words: &[&str], source: SeedSource<'_>) -> bool {
-    match seed_source::<AnyKind>(alloc, words) {
+fn comes_from(alloc: Global, words: &[&str], source: KeySource<'_>) -> bool {
+    match key_source::<AnyKind>(alloc, words) {
         Ok(found) => found == source,
         Err(_) => false,
     }
 }
 
 /// Whether the seed of the words of a line comes from here.
-fn is_from(alloc: Global, line: &str, source: SeedSource<'_>) -> bool {
+fn is_from(alloc: Global, line: &str, source: KeySource<'_>) -> bool {
     let words: Result<Vec<&str>, AllocError> = line.split(' ').collect(alloc);
     match words {
         Ok(words) => comes_from(alloc, &words, source),
@@ -82,19 +82,33 @@ fn is_from(alloc: Global, line: &str, source: SeedSource<'_>) -> bool {
 #[test]
 fn the_words_say_where_the_seed_comes_from(rt: HostRuntime) {
     for &(line, source) in &[
-        ("abft cluster", SeedSource::Words),
-        ("abft cluster --seed random", SeedSource::Random),
-        ("abft serve --seed random", SeedSource::Random),
-        ("abft serve --seed-file k", SeedSource::File("k")),
-        ("abft sign ack --seed-file=k", SeedSource::File("k")),
-        ("abft simulate --seed-file k", SeedSource::File("k")),
-        ("abft draw --seed-file k", SeedSource::File("k")),
-        ("abft audit --seed random", SeedSource::Words),
-        ("abft audit --seed-file -", SeedSource::Words),
-        ("abft audit --seed-file k --seed 00", SeedSource::Words),
-        ("abft audit --seed-file k --n 99", SeedSource::Words),
-        ("abft vote --seed-file k", SeedSource::Words),
-        ("abft --help", SeedSource::Words),
+        ("abft cluster", KeySource::Words),
+        ("abft cluster --seed random", KeySource::Random),
+        ("abft serve --seed random", KeySource::Random),
+        ("abft serve --seed-file k", KeySource::SeedFile("k")),
+        ("abft sign ack --seed-file=k", KeySource::SeedFile("k")),
+        ("abft simulate --seed-file k", KeySource::SeedFile("k")),
+        ("abft draw --seed-file k", KeySource::SeedFile("k")),
+        ("abft keys --seed-file k", KeySource::SeedFile("k")),
+        (
+            "abft keys --seed random --write-seed k",
+            KeySource::NewFile("k"),
+        ),
+        ("abft audit --cluster k", KeySource::ClusterFile("k")),
+        (
+            "abft draw --cluster k --last 9",
+            KeySource::ClusterFile("k"),
+        ),
+        ("abft audit --cluster k --n 99", KeySource::ClusterFile("k")),
+        ("abft keys --seed random", KeySource::Words),
+        ("abft keys --write-seed k", KeySource::Words),
+        ("abft sign ack --cluster k", KeySource::Words),
+        ("abft audit --seed random", KeySource::Words),
+        ("abft audit --seed-file -", KeySource::Words),
+        ("abft audit --seed-file k --seed 00", KeySource::Words),
+        ("abft audit --seed-file k --n 99", KeySource::Words),
+        ("abft vote --seed-file k", KeySource::Words),
+        ("abft --help", KeySource::Words),
     ] {
         assert!(rt; is_from(rt.alloc(), line, source), "{line}");
     }

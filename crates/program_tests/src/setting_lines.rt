@@ -1,9 +1,10 @@
 //! Prints the settings that words of a command line give, as a line, for the tests.
 use app_kinds::AnyKind;
 use cluster_setup::{
-    AuditSettings, ClusterSeed, ClusterSettings, Receipt, ServeSettings, Settings,
+    AuditSettings, ClusterSeed, ClusterSettings, KnownCluster, PublicCluster, Receipt,
+    ServeSettings, Settings,
 };
-use command_line::settings;
+use command_line::{GivenKeys, settings};
 use std::alloc::{AllocError, Global};
 
 /// The options of a cluster, as a line: the number of replicas, how many of them may lie, the application, bits and
@@ -51,9 +52,29 @@ fn receipt_line(alloc: Global, receipt: &Receipt) -> Result<String, AllocError> 
     format!(in alloc; "{} {} {tx:?}", receipt.replica.number(), receipt.index)
 }
 
+/// The cluster of a public file, as a line: as above, but for the seed.
+fn public_line(alloc: Global, cluster: &PublicCluster) -> Result<String, AllocError> {
+    let config = cluster.config;
+    let params = cluster.params;
+    let width = params.width;
+    let leaves = params.leaves();
+    format!(in alloc;
+        "public {} {} {:?} {width:?} {leaves} {:?}",
+        config.replicas, config.faults, config.kind, config.frames
+    )
+}
+
+/// The cluster of histories, as a line.
+fn known_line(alloc: Global, cluster: &KnownCluster) -> Result<String, AllocError> {
+    match cluster {
+        KnownCluster::BySeed(seeded) => cluster_line(alloc, seeded),
+        KnownCluster::ByKeys(public) => public_line(alloc, public),
+    }
+}
+
 /// The settings of `abft audit`, as a line.
 fn audit_line(alloc: Global, audit: &AuditSettings) -> Result<String, AllocError> {
-    let cluster = cluster_line(alloc, &audit.cluster)?;
+    let cluster = known_line(alloc, &audit.cluster)?;
     let Some(receipt) = &audit.receipt else {
         return format!(in alloc; "{cluster}, no receipt");
     };
@@ -61,31 +82,42 @@ fn audit_line(alloc: Global, audit: &AuditSettings) -> Result<String, AllocError
     format!(in alloc; "{cluster}, {receipt}")
 }
 
-/// The settings that the words give with a seed, as a line, or what is wrong with them.
-fn settings_line(
-    alloc: Global,
-    words: &[&str],
-    given: Option<[u8; 32]>,
-) -> Result<String, AllocError> {
+/// The settings that the words give with what is given, as a line, or what is wrong with them.
+fn settings_line(alloc: Global, words: &[&str], given: GivenKeys) -> Result<String, AllocError> {
     match settings::<AnyKind>(alloc, words, given) {
         Ok(Settings::Cluster(running)) => running_line(alloc, &running),
         Ok(Settings::Serve(serve)) => serving_line(alloc, &serve),
         Ok(Settings::Audit(audit)) => audit_line(alloc, &audit),
+        Ok(Settings::Draw(draw)) => known_line(alloc, &draw.cluster),
+        Ok(Settings::Keys(cluster)) => cluster_line(alloc, &cluster),
         Ok(_) => format!(in alloc; "other settings"),
         Err(fault) => format!(in alloc; "{fault}"),
     }
 }
 
-/// Whether the words give these settings with a seed, or have this fault.
-fn sets(alloc: Global, words: &[&str], given: Option<[u8; 32]>, text: &str) -> bool {
+/// Whether the words give these settings with what is given, or have this fault.
+fn sets(alloc: Global, words: &[&str], given: GivenKeys, text: &str) -> bool {
     match settings_line(alloc, words, given) {
         Ok(line) => line.as_str() == text,
         Err(_) => false,
     }
 }
 
+/// This seed is given, and no cluster.
+pub(crate) fn seed_alone(seed: Option<[u8; 32]>) -> GivenKeys {
+    GivenKeys {
+        seed,
+        cluster: None,
+    }
+}
+
 /// Whether the words of a line give these settings with a seed, or have this fault.
-pub(crate) fn is_set_with(alloc: Global, line: &str, given: Option<[u8; 32]>, text: &str) -> bool {
+pub(crate) fn is_set_with(alloc: Global, line: &str, seed: Option<[u8; 32]>, text: &str) -> bool {
+    is_set_given(alloc, line, seed_alone(seed), text)
+}
+
+/// Whether the words of a line give these settings with what is given, or have this fault.
+pub(crate) fn is_set_given(alloc: Global, line: &str, given: GivenKeys, text: &str) -> bool {
     let words: Result<Vec<&str>, AllocError> = line.split(' ').collect(alloc);
     match words {
         Ok(words) => sets(alloc, &words, given, text),

@@ -1,5 +1,6 @@
 //! The settings that the words of a command line give. `tests/end_to_end.sh` tests those of `abft sign`, and the words
 //! that are refused.
+use crate::setting_lines::seed_alone;
 use app_kinds::AnyKind;
 use cluster_setup::Settings;
 use command_line::settings;
@@ -8,7 +9,7 @@ use std::alloc::Global;
 
 /// The settings that the words give, if they give any. It has no `ensures`, which keeps clap out of the tests' proofs.
 fn set(alloc: Global, words: &[&str]) -> Option<Settings> {
-    settings::<AnyKind>(alloc, words, None).ok()
+    settings::<AnyKind>(alloc, words, seed_alone(None)).ok()
 }
 
 /// The application of the cluster of `abft sign`.

@@ -3,7 +3,7 @@
 //! A program is one call, at the type of its application: see `main` of `abft`, and of `notary`.
 #![tactic(auto)]
 
+mod key_files;
 mod process;
-mod seed_file;
 
 pub use process::{StandardStreams, run_process};

@@ -1,5 +1,5 @@
 //! Runs a program on the words and streams of its process, and returns the exit status.
-use crate::seed_file::{given_seed, stop};
+use crate::key_files::{given_keys, stop};
 use app_states::Opening;
 use byte_streams::{ProgramFault, Resource, require_open};
 use cluster_reports::{SharedStatus, Watcher, start_reporter};
@@ -233,8 +233,8 @@ where
     Ok(ended)
 }
 
-/// Does what the words of the process ask for, unless that takes threads. The seed of all keys is read or drawn first, if it isn't in the
-/// words. An `Err` means that the words could not be read.
+/// Does what the words of the process ask for, unless that takes threads. The seed of all keys, or the cluster, is read or drawn first,
+/// if it isn't in the words. An `Err` means that the words could not be read.
 fn run_words<A: Opening, R: AllocGlobal + Env + Files + RandomSource>(
     rt: &R,
     alloc: Global,
@@ -243,7 +243,7 @@ fn run_words<A: Opening, R: AllocGlobal + Env + Files + RandomSource>(
     let words: Vec<String> = env::args(rt)?.collect(alloc)?;
     let words: Vec<&str> = words.iter().map(|word| word.as_str()).collect(alloc)?;
     let mut faults = streams.errors;
-    let given = match given_seed::<A, _, _>(rt, alloc, &words, &mut faults) {
+    let given = match given_keys::<A, _, _>(rt, alloc, &words, &mut faults) {
         Ok(given) => given,
         Err(fault) => return Ok(Outcome::Ended(stop(alloc, &fault, &mut faults))),
     };

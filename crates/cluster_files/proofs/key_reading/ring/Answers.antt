@@ -4,7 +4,7 @@ use Rattle.std.proofs.lemmas.List.Elements.{All-push}
 use Rattle.std.proofs.lemmas.Result.{err_from_is_err_and}
 use Rattle.toml.specs.View.{array_view, table_view, view}
 use Rattle.cluster_files.specs.FileTables.{spelled_key}
-use Rattle.cluster_files.specs.KeySizes.{HasSizes}
+use Rattle.cluster_setup.specs.KeySizes.{HasSizes}
 use Rattle.cluster_files.proofs.KeyLists.{spelled_keys-append, spelled_keys-at, spelled_keys-view}
 use Rattle.cluster_files.proofs.ItemFaults.{item_right}
 use Rattle.cluster_files.proofs.key_reading.ring.Goals as goal

@@ -2,7 +2,7 @@ use Rattle.std.proofs.Common.{◌≡◌, map, take, Some}
 use Rattle.std.specs.List.{All}
 use Rattle.toml.specs.View.{view}
 use Rattle.cluster_files.specs.FileTables.{spelled_key}
-use Rattle.cluster_files.specs.KeySizes.{HasSizes}
+use Rattle.cluster_setup.specs.KeySizes.{HasSizes}
 use Rattle.cluster_files.proofs.key_reading.ring.Given as goal
 
 abbrev pub invariant-loop-replica : goal.invariant-loop-replica

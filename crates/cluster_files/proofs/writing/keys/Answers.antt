@@ -1,6 +1,6 @@
 use Rattle.std.proofs.lemmas.List.Elements.{All-push}
 use Rattle.std.proofs.Common.{take}
-use Rattle.cluster_files.specs.KeySizes.{Is56Bytes}
+use Rattle.cluster_files.specs.KeyBytes.{Is56Bytes}
 use Rattle.cluster_files.proofs.KeyLists.{keys_data-more, take-next}
 use Rattle.cluster_files.proofs.writing.keys.Goals as goal
 

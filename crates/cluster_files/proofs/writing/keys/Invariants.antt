@@ -2,7 +2,7 @@ use Rattle.std.proofs.Common.{◌≡◌, take}
 use Rattle.std.specs.List.{All}
 use Rattle.toml.specs.View.{items_view}
 use Rattle.cluster_files.specs.FileTables.{keys_data}
-use Rattle.cluster_files.specs.KeySizes.{Is56Bytes}
+use Rattle.cluster_files.specs.KeyBytes.{Is56Bytes}
 use Rattle.cluster_files.proofs.writing.keys.Given as goal
 
 abbrev pub invariant-loop-replica : goal.invariant-loop-replica

@@ -15,11 +15,11 @@ returns-in_err-receipt-clause-none g c =
 
 pub returns-in_err-cluster-clause-right : goal.returns-in_err-cluster-clause-right
 returns-in_err-cluster-clause-right g c =
-    λ meaning. passed_up _ c.in_err-cluster.field-0.0 (IsRightOf (g.A.Opening.words.kinds) meaning c.args.given audit_options (rows_of (found_of c.args.matches.now)))
+    λ meaning. passed_up _ c.in_err-cluster.field-0.0 (IsRightOf (g.A.Opening.words.kinds) meaning c.args.given.seed audit_options (rows_of (found_of c.args.matches.now)))
     c.from_residual.ensures.1
-    (c.in_err-cluster.ensures.right meaning audit_options (has_cluster _ _ _ _ _))
+    (c.in_err-cluster.ensures.right meaning audit_options (has_cluster _ _ _ _ _) refl)
 
 pub returns-in_err-receipt-clause-right : goal.returns-in_err-receipt-clause-right
 returns-in_err-receipt-clause-right g c =
-    λ meaning. passed_up _ c.in_err-receipt.field-0.0 (IsRightOf (g.A.Opening.words.kinds) meaning c.args.given audit_options (rows_of (found_of c.args.matches.now)))
-    c.from_residual-in_err-receipt.ensures.1 (c.in_err-receipt.ensures.right (g.A.Opening.words.kinds) meaning c.args.given audit_options refl)
+    λ meaning. passed_up _ c.in_err-receipt.field-0.0 (IsRightOf (g.A.Opening.words.kinds) meaning c.args.given.seed audit_options (rows_of (found_of c.args.matches.now)))
+    c.from_residual-in_err-receipt.ensures.1 (c.in_err-receipt.ensures.right (g.A.Opening.words.kinds) meaning c.args.given.seed audit_options refl)

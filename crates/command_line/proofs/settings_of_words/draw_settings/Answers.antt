@@ -9,9 +9,9 @@ use Rattle.command_line.proofs.settings_of_words.draw_settings.Goals as goal
 
 pub returns-in_err-cluster-clause-right : goal.returns-in_err-cluster-clause-right
 returns-in_err-cluster-clause-right g c =
-    λ meaning. passed_up _ c.in_err-cluster.field-0.0 (IsRightOf (g.A.Opening.words.kinds) meaning c.args.given draw_options (rows_of (found_of c.args.matches.now)))
+    λ meaning. passed_up _ c.in_err-cluster.field-0.0 (IsRightOf (g.A.Opening.words.kinds) meaning c.args.given.seed draw_options (rows_of (found_of c.args.matches.now)))
     c.from_residual.ensures.1
-    (c.in_err-cluster.ensures.right meaning draw_options (has_cluster _ _ _ _ _))
+    (c.in_err-cluster.ensures.right meaning draw_options (has_cluster _ _ _ _ _) refl)
 
 pub returns-in_err-height-clause-none : goal.returns-in_err-height-clause-none
 returns-in_err-height-clause-none g c =
@@ -19,8 +19,8 @@ returns-in_err-height-clause-none g c =
 
 pub returns-in_err-height-clause-right : goal.returns-in_err-height-clause-right
 returns-in_err-height-clause-right g c =
-    λ meaning. passed_up _ c.in_err-height.field-0.0 (IsRightOf (g.A.Opening.words.kinds) meaning c.args.given draw_options (rows_of (found_of c.args.matches.now)))
-    c.from_residual-in_err-height.ensures.1 (c.in_err-height.ensures.right (g.A.Opening.words.kinds) meaning c.args.given draw_options (refl, inl refl))
+    λ meaning. passed_up _ c.in_err-height.field-0.0 (IsRightOf (g.A.Opening.words.kinds) meaning c.args.given.seed draw_options (rows_of (found_of c.args.matches.now)))
+    c.from_residual-in_err-height.ensures.1 (c.in_err-height.ensures.right (g.A.Opening.words.kinds) meaning c.args.given.seed draw_options (refl, inl refl))
 
 pub returns-in_err-first-clause-none : goal.returns-in_err-first-clause-none
 returns-in_err-first-clause-none g c =
@@ -28,8 +28,8 @@ returns-in_err-first-clause-none g c =
 
 pub returns-in_err-first-clause-right : goal.returns-in_err-first-clause-right
 returns-in_err-first-clause-right g c =
-    λ meaning. passed_up _ c.in_err-first.field-0.0 (IsRightOf (g.A.Opening.words.kinds) meaning c.args.given draw_options (rows_of (found_of c.args.matches.now)))
-    c.from_residual-in_err-first.ensures.1 (c.in_err-first.ensures.right (g.A.Opening.words.kinds) meaning c.args.given draw_options (refl, inl refl))
+    λ meaning. passed_up _ c.in_err-first.field-0.0 (IsRightOf (g.A.Opening.words.kinds) meaning c.args.given.seed draw_options (rows_of (found_of c.args.matches.now)))
+    c.from_residual-in_err-first.ensures.1 (c.in_err-first.ensures.right (g.A.Opening.words.kinds) meaning c.args.given.seed draw_options (refl, inl refl))
 
 pub returns-in_err-last-clause-none : goal.returns-in_err-last-clause-none
 returns-in_err-last-clause-none g c =
@@ -37,5 +37,5 @@ returns-in_err-last-clause-none g c =
 
 pub returns-in_err-last-clause-right : goal.returns-in_err-last-clause-right
 returns-in_err-last-clause-right g c =
-    λ meaning. passed_up _ c.in_err-last.field-0.0 (IsRightOf (g.A.Opening.words.kinds) meaning c.args.given draw_options (rows_of (found_of c.args.matches.now)))
-    c.from_residual-in_err-last.ensures.1 (c.in_err-last.ensures.right (g.A.Opening.words.kinds) meaning c.args.given draw_options (refl, inl refl))
+    λ meaning. passed_up _ c.in_err-last.field-0.0 (IsRightOf (g.A.Opening.words.kinds) meaning c.args.given.seed draw_options (rows_of (found_of c.args.matches.now)))
+    c.from_residual-in_err-last.ensures.1 (c.in_err-last.ensures.right (g.A.Opening.words.kinds) meaning c.args.given.seed draw_options (refl, inl refl))

@@ -7,11 +7,11 @@ use Rattle.command_line.proofs.settings_of_words.settings.Goals as goal
 
 pub returns-clause-right : goal.returns-clause-right
 returns-clause-right g c =
-    options_right (g.A.Opening.words) (g.A.Application.meaning) c.args.given (map (λ w. w.now) c.args.words.now)
+    options_right (g.A.Opening.words) (g.A.Application.meaning) c.args.given.seed (map (λ w. w.now) c.args.words.now)
     (subcommand_rows_of c.in_ok-matches.matches) c.settings_of.result
     c.in_ok-matches.ensures.taken c.in_ok-matches.ensures.found c.settings_of.ensures.right
 
 pub returns-in_err-matches-clause-right : goal.returns-in_err-matches-clause-right
 returns-in_err-matches-clause-right g c =
-    passed_up _ c.in_err-matches.field-0.0 (IsRightFault (g.A.Opening.words) (g.A.Application.meaning) c.args.given (map (λ w. w.now) c.args.words.now))
-    c.from_residual.ensures.1 (c.in_err-matches.ensures.right (g.A.Application.meaning) c.args.given)
+    passed_up _ c.in_err-matches.field-0.0 (IsRightFault (g.A.Opening.words) (g.A.Application.meaning) c.args.given.seed (map (λ w. w.now) c.args.words.now))
+    c.from_residual.ensures.1 (c.in_err-matches.ensures.right (g.A.Application.meaning) c.args.given.seed)

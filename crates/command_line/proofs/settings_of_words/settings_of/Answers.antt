@@ -1,13 +1,13 @@
 use Rattle.std.proofs.Common.{◌≡◌, ◌∙◌, inl, inr, List, Some, refl, rules, codes, subst, sym}
 use Rattle.std.proofs.lemmas.Option.{same_Some}
 use Rattle.clap.specs.Words.{Row, found_of, rows_of}
-use Rattle.command_line.specs.Options.{Sets, SetsSign, SetsDeliver, SetsSimulate, SetsRunning, SetsServe, SetsAudit, SetsDraw, WantsMemory}
+use Rattle.command_line.specs.Options.{Sets, SetsSign, SetsDeliver, SetsSimulate, SetsRunning, SetsServe, SetsAudit, SetsDraw, SetsKeys, WantsMemory}
 use Rattle.command_line.specs.Options.{running_options}
 use Rattle.cluster_setup.specs.declared.settings.Settings.TheVariants as settings
 use Rattle.command_line.specs.Faults.{IsNoSubcommand}
 use Rattle.command_line.proofs.FaultLemmas.{right_alike}
 use Rattle.command_line.proofs.MatchesLemmas.{found_is, names_one, refused_alike, set_alike, refused_anyway, sets_sign, sets_deliver}
-use Rattle.command_line.proofs.MatchesLemmas.{sets_simulate, sets_cluster, sets_serve, sets_audit, sets_draw}
+use Rattle.command_line.proofs.MatchesLemmas.{sets_simulate, sets_cluster, sets_serve, sets_audit, sets_draw, sets_keys}
 use Rattle.command_line.proofs.Tables.{has_running}
 use Rattle.command_line.proofs.settings_of_words.settings_of.Goals as goal
 
@@ -16,7 +16,7 @@ returns-in-sign-clause-set g c =
     let rows : List Row = rows_of (found_of c.in-Some.options.now) in
     let found = found_is c.args.matches.now (codes "sign") rows (search (rules, c.in-sign.is, c.in-Some.ensures.name))
     c.in-Some.ensures.rows in
-    set_alike (g.A.Opening.words.kinds) (g.A.Application.meaning) c.args.given (λ t s. s ≡ settings.Sign t) (SetsSign (g.A.Opening.words.kinds) c.args.given rows) _ _ c.sign_settings.result c.map.result found
+    set_alike (g.A.Opening.words.kinds) (g.A.Application.meaning) c.args.given (λ t s. s ≡ settings.Sign t) (SetsSign (g.A.Opening.words.kinds) c.args.given.seed rows) _ _ c.sign_settings.result c.map.result found
     (λ t s is set. subst (λ x. Sets (g.A.Opening.words.kinds) (g.A.Application.meaning) c.args.given (Some (codes "sign", rows)) x) (sym is) (refl, set))
     c.sign_settings.ensures.some
     c.map.ensures.cases
@@ -26,7 +26,7 @@ returns-in-sign-clause-refused g c =
     let rows : List Row = rows_of (found_of c.in-Some.options.now) in
     let found = found_is c.args.matches.now (codes "sign") rows (search (rules, c.in-sign.is, c.in-Some.ensures.name))
     c.in-Some.ensures.rows in
-    refused_alike (g.A.Opening.words.kinds) (g.A.Application.meaning) c.args.given _ (SetsSign (g.A.Opening.words.kinds) c.args.given rows) _ _ c.sign_settings.result c.map.result found
+    refused_alike (g.A.Opening.words.kinds) (g.A.Application.meaning) c.args.given _ (SetsSign (g.A.Opening.words.kinds) c.args.given.seed rows) _ _ c.sign_settings.result c.map.result found
     (λ e s. sets_sign (g.A.Opening.words.kinds) (g.A.Application.meaning) c.args.given rows s) c.sign_settings.ensures.none
     c.map.ensures.cases
 
@@ -36,7 +36,7 @@ returns-in-deliver-clause-set g c =
     let found = found_is c.args.matches.now (codes "deliver") rows (search (rules, c.in-deliver.is, c.in-Some.ensures.name))
     c.in-Some.ensures.rows in
     set_alike (g.A.Opening.words.kinds) (g.A.Application.meaning) c.args.given (λ t s. s ≡ settings.Deliver t)
-    (SetsDeliver (g.A.Opening.words.kinds) (g.A.Application.meaning) c.args.given rows) _ _ c.deliver_settings.result c.map-in-deliver.result found
+    (SetsDeliver (g.A.Opening.words.kinds) (g.A.Application.meaning) c.args.given.seed rows) _ _ c.deliver_settings.result c.map-in-deliver.result found
     (λ t s is set. subst (λ x. Sets (g.A.Opening.words.kinds) (g.A.Application.meaning) c.args.given (Some (codes "deliver", rows)) x) (sym is) (refl, set))
     c.deliver_settings.ensures.some
     c.map-in-deliver.ensures.cases
@@ -46,7 +46,7 @@ returns-in-deliver-clause-refused g c =
     let rows : List Row = rows_of (found_of c.in-Some.options.now) in
     let found = found_is c.args.matches.now (codes "deliver") rows (search (rules, c.in-deliver.is, c.in-Some.ensures.name))
     c.in-Some.ensures.rows in
-    refused_alike (g.A.Opening.words.kinds) (g.A.Application.meaning) c.args.given _ (SetsDeliver (g.A.Opening.words.kinds) (g.A.Application.meaning) c.args.given rows) _ _ c.deliver_settings.result
+    refused_alike (g.A.Opening.words.kinds) (g.A.Application.meaning) c.args.given _ (SetsDeliver (g.A.Opening.words.kinds) (g.A.Application.meaning) c.args.given.seed rows) _ _ c.deliver_settings.result
     c.map-in-deliver.result found (λ e s. sets_deliver (g.A.Opening.words.kinds) (g.A.Application.meaning) c.args.given rows s)
     c.deliver_settings.ensures.none c.map-in-deliver.ensures.cases
 
@@ -56,7 +56,7 @@ returns-in-simulate-clause-set g c =
     let found = found_is c.args.matches.now (codes "simulate") rows (search (rules, c.in-simulate.is, c.in-Some.ensures.name))
     c.in-Some.ensures.rows in
     set_alike (g.A.Opening.words.kinds) (g.A.Application.meaning) c.args.given (λ t s. s ≡ settings.Simulate t)
-    (SetsSimulate c.args.given rows) _ _ c.simulate_settings.result c.map-in-simulate.result found
+    (SetsSimulate c.args.given.seed rows) _ _ c.simulate_settings.result c.map-in-simulate.result found
     (λ t s is set. subst (λ x. Sets (g.A.Opening.words.kinds) (g.A.Application.meaning) c.args.given (Some (codes "simulate", rows)) x) (sym is) (refl, set))
     c.simulate_settings.ensures.some
     c.map-in-simulate.ensures.cases
@@ -66,9 +66,9 @@ returns-in-simulate-clause-refused g c =
     let rows : List Row = rows_of (found_of c.in-Some.options.now) in
     let found = found_is c.args.matches.now (codes "simulate") rows (search (rules, c.in-simulate.is, c.in-Some.ensures.name))
     c.in-Some.ensures.rows in
-    refused_alike (g.A.Opening.words.kinds) (g.A.Application.meaning) c.args.given _ (SetsSimulate c.args.given rows) _ _ c.simulate_settings.result c.map-in-simulate.result found
+    refused_alike (g.A.Opening.words.kinds) (g.A.Application.meaning) c.args.given _ (SetsSimulate c.args.given.seed rows) _ _ c.simulate_settings.result c.map-in-simulate.result found
     (λ e s. sets_simulate (g.A.Opening.words.kinds) (g.A.Application.meaning) c.args.given rows s)
-    (refused_anyway (SetsSimulate c.args.given rows) WantsMemory _ c.simulate_settings.ensures.none) c.map-in-simulate.ensures.cases
+    (refused_anyway (SetsSimulate c.args.given.seed rows) WantsMemory _ c.simulate_settings.ensures.none) c.map-in-simulate.ensures.cases
 
 pub returns-in-cluster-clause-set : goal.returns-in-cluster-clause-set
 returns-in-cluster-clause-set g c =
@@ -76,7 +76,7 @@ returns-in-cluster-clause-set g c =
     let found = found_is c.args.matches.now (codes "cluster") rows (search (rules, c.in-cluster.is, c.in-Some.ensures.name))
     c.in-Some.ensures.rows in
     set_alike (g.A.Opening.words.kinds) (g.A.Application.meaning) c.args.given (λ t s. s ≡ settings.Cluster t)
-    (SetsRunning (g.A.Opening.words.kinds) (g.A.Application.meaning) c.args.given rows) _ _ c.cluster_settings.result c.map-in-cluster.result found
+    (SetsRunning (g.A.Opening.words.kinds) (g.A.Application.meaning) c.args.given.seed rows) _ _ c.cluster_settings.result c.map-in-cluster.result found
     (λ t s is set. subst (λ x. Sets (g.A.Opening.words.kinds) (g.A.Application.meaning) c.args.given (Some (codes "cluster", rows)) x) (sym is) (refl, set))
     c.cluster_settings.ensures.some
     c.map-in-cluster.ensures.cases
@@ -86,7 +86,7 @@ returns-in-cluster-clause-refused g c =
     let rows : List Row = rows_of (found_of c.in-Some.options.now) in
     let found = found_is c.args.matches.now (codes "cluster") rows (search (rules, c.in-cluster.is, c.in-Some.ensures.name))
     c.in-Some.ensures.rows in
-    refused_alike (g.A.Opening.words.kinds) (g.A.Application.meaning) c.args.given _ (SetsRunning (g.A.Opening.words.kinds) (g.A.Application.meaning) c.args.given rows) _ _ c.cluster_settings.result
+    refused_alike (g.A.Opening.words.kinds) (g.A.Application.meaning) c.args.given _ (SetsRunning (g.A.Opening.words.kinds) (g.A.Application.meaning) c.args.given.seed rows) _ _ c.cluster_settings.result
     c.map-in-cluster.result found (λ e s. sets_cluster (g.A.Opening.words.kinds) (g.A.Application.meaning) c.args.given rows s)
     c.cluster_settings.ensures.none c.map-in-cluster.ensures.cases
 
@@ -96,7 +96,7 @@ returns-in-serve-clause-set g c =
     let found = found_is c.args.matches.now (codes "serve") rows (search (rules, c.in-serve.is, c.in-Some.ensures.name))
     c.in-Some.ensures.rows in
     set_alike (g.A.Opening.words.kinds) (g.A.Application.meaning) c.args.given (λ t s. s ≡ settings.Serve t)
-    (SetsServe (g.A.Opening.words.kinds) (g.A.Application.meaning) c.args.given rows) _ _ c.serve_settings.result c.map-in-serve.result found
+    (SetsServe (g.A.Opening.words.kinds) (g.A.Application.meaning) c.args.given.seed rows) _ _ c.serve_settings.result c.map-in-serve.result found
     (λ t s is set. subst (λ x. Sets (g.A.Opening.words.kinds) (g.A.Application.meaning) c.args.given (Some (codes "serve", rows)) x) (sym is) (refl, set))
     c.serve_settings.ensures.some
     c.map-in-serve.ensures.cases
@@ -106,7 +106,7 @@ returns-in-serve-clause-refused g c =
     let rows : List Row = rows_of (found_of c.in-Some.options.now) in
     let found = found_is c.args.matches.now (codes "serve") rows (search (rules, c.in-serve.is, c.in-Some.ensures.name))
     c.in-Some.ensures.rows in
-    refused_alike (g.A.Opening.words.kinds) (g.A.Application.meaning) c.args.given _ (SetsServe (g.A.Opening.words.kinds) (g.A.Application.meaning) c.args.given rows) _ _ c.serve_settings.result c.map-in-serve.result
+    refused_alike (g.A.Opening.words.kinds) (g.A.Application.meaning) c.args.given _ (SetsServe (g.A.Opening.words.kinds) (g.A.Application.meaning) c.args.given.seed rows) _ _ c.serve_settings.result c.map-in-serve.result
     found (λ e s. sets_serve (g.A.Opening.words.kinds) (g.A.Application.meaning) c.args.given rows s)
     c.serve_settings.ensures.none c.map-in-serve.ensures.cases
 
@@ -149,6 +149,25 @@ returns-in-draw-clause-refused g c =
     (λ e s. sets_draw (g.A.Opening.words.kinds) (g.A.Application.meaning) c.args.given rows s)
     c.draw_settings.ensures.none c.map-in-draw.ensures.cases
 
+pub returns-in-keys-clause-set : goal.returns-in-keys-clause-set
+returns-in-keys-clause-set g c =
+    let rows : List Row = rows_of (found_of c.in-Some.options.now) in
+    let found = found_is c.args.matches.now (codes "keys") rows (search (rules, c.in-keys.is, c.in-Some.ensures.name))
+    c.in-Some.ensures.rows in
+    set_alike (g.A.Opening.words.kinds) (g.A.Application.meaning) c.args.given (λ t s. s ≡ settings.Keys t) (SetsKeys (g.A.Opening.words.kinds) c.args.given.seed rows) _ _ c.keys_settings.result c.map-in-keys.result found
+    (λ t s is set. subst (λ x. Sets (g.A.Opening.words.kinds) (g.A.Application.meaning) c.args.given (Some (codes "keys", rows)) x) (sym is) (refl, set))
+    c.keys_settings.ensures.some
+    c.map-in-keys.ensures.cases
+
+pub returns-in-keys-clause-refused : goal.returns-in-keys-clause-refused
+returns-in-keys-clause-refused g c =
+    let rows : List Row = rows_of (found_of c.in-Some.options.now) in
+    let found = found_is c.args.matches.now (codes "keys") rows (search (rules, c.in-keys.is, c.in-Some.ensures.name))
+    c.in-Some.ensures.rows in
+    refused_alike (g.A.Opening.words.kinds) (g.A.Application.meaning) c.args.given _ (SetsKeys (g.A.Opening.words.kinds) c.args.given.seed rows) _ _ c.keys_settings.result c.map-in-keys.result found
+    (λ e s. sets_keys (g.A.Opening.words.kinds) (g.A.Application.meaning) c.args.given rows s)
+    (refused_anyway (SetsKeys (g.A.Opening.words.kinds) c.args.given.seed rows) WantsMemory _ c.keys_settings.ensures.none) c.map-in-keys.ensures.cases
+
 pub returns-in_default-name-clause-refused : goal.returns-in_default-name-clause-refused
 returns-in_default-name-clause-refused g c = λ s sets.
     elim (names_one (g.A.Opening.words.kinds) (g.A.Application.meaning) c.args.given c.args.matches.now s sets) [
@@ -161,8 +180,10 @@ returns-in_default-name-clause-refused g c = λ s sets.
           (same_Some c.in-Some.name.now (codes "serve") (c.in-Some.ensures.name ∙ h))
       | inr (inr (inr (inr (inr (inl h))))) ↦ c.in_default-name.not-audit
           (same_Some c.in-Some.name.now (codes "audit") (c.in-Some.ensures.name ∙ h))
-      | inr (inr (inr (inr (inr (inr h))))) ↦ c.in_default-name.not-draw
+      | inr (inr (inr (inr (inr (inr (inl h)))))) ↦ c.in_default-name.not-draw
           (same_Some c.in-Some.name.now (codes "draw") (c.in-Some.ensures.name ∙ h))
+      | inr (inr (inr (inr (inr (inr (inr h)))))) ↦ c.in_default-name.not-keys
+          (same_Some c.in-Some.name.now (codes "keys") (c.in-Some.ensures.name ∙ h))
     ]
 
 pub returns-in-sign-clause-right : goal.returns-in-sign-clause-right
@@ -170,7 +191,7 @@ returns-in-sign-clause-right g c =
     let rows : List Row = rows_of (found_of c.in-Some.options.now) in
     let found = found_is c.args.matches.now (codes "sign") rows (search (rules, c.in-sign.is, c.in-Some.ensures.name))
     c.in-Some.ensures.rows in
-    right_alike (g.A.Opening.words.kinds) (g.A.Application.meaning) c.args.given _ _ _ c.sign_settings.result c.map.result found
+    right_alike (g.A.Opening.words.kinds) (g.A.Application.meaning) c.args.given.seed _ _ _ c.sign_settings.result c.map.result found
     (c.sign_settings.ensures.right (g.A.Application.meaning)) c.map.ensures.cases
 
 pub returns-in-deliver-clause-right : goal.returns-in-deliver-clause-right
@@ -178,7 +199,7 @@ returns-in-deliver-clause-right g c =
     let rows : List Row = rows_of (found_of c.in-Some.options.now) in
     let found = found_is c.args.matches.now (codes "deliver") rows (search (rules, c.in-deliver.is, c.in-Some.ensures.name))
     c.in-Some.ensures.rows in
-    right_alike (g.A.Opening.words.kinds) (g.A.Application.meaning) c.args.given _ _ _ c.deliver_settings.result c.map-in-deliver.result found c.deliver_settings.ensures.right
+    right_alike (g.A.Opening.words.kinds) (g.A.Application.meaning) c.args.given.seed _ _ _ c.deliver_settings.result c.map-in-deliver.result found c.deliver_settings.ensures.right
     c.map-in-deliver.ensures.cases
 
 pub returns-in-simulate-clause-right : goal.returns-in-simulate-clause-right
@@ -186,7 +207,7 @@ returns-in-simulate-clause-right g c =
     let rows : List Row = rows_of (found_of c.in-Some.options.now) in
     let found = found_is c.args.matches.now (codes "simulate") rows (search (rules, c.in-simulate.is, c.in-Some.ensures.name))
     c.in-Some.ensures.rows in
-    right_alike (g.A.Opening.words.kinds) (g.A.Application.meaning) c.args.given _ _ _ c.simulate_settings.result c.map-in-simulate.result found
+    right_alike (g.A.Opening.words.kinds) (g.A.Application.meaning) c.args.given.seed _ _ _ c.simulate_settings.result c.map-in-simulate.result found
     (c.simulate_settings.ensures.right (g.A.Opening.words.kinds) (g.A.Application.meaning))
     c.map-in-simulate.ensures.cases
 
@@ -195,7 +216,7 @@ returns-in-cluster-clause-right g c =
     let rows : List Row = rows_of (found_of c.in-Some.options.now) in
     let found = found_is c.args.matches.now (codes "cluster") rows (search (rules, c.in-cluster.is, c.in-Some.ensures.name))
     c.in-Some.ensures.rows in
-    right_alike (g.A.Opening.words.kinds) (g.A.Application.meaning) c.args.given _ _ _ c.cluster_settings.result c.map-in-cluster.result found
+    right_alike (g.A.Opening.words.kinds) (g.A.Application.meaning) c.args.given.seed _ _ _ c.cluster_settings.result c.map-in-cluster.result found
     (c.cluster_settings.ensures.right running_options (has_running _ _ _ _))
     c.map-in-cluster.ensures.cases
 
@@ -204,7 +225,7 @@ returns-in-serve-clause-right g c =
     let rows : List Row = rows_of (found_of c.in-Some.options.now) in
     let found = found_is c.args.matches.now (codes "serve") rows (search (rules, c.in-serve.is, c.in-Some.ensures.name))
     c.in-Some.ensures.rows in
-    right_alike (g.A.Opening.words.kinds) (g.A.Application.meaning) c.args.given _ _ _ c.serve_settings.result c.map-in-serve.result found c.serve_settings.ensures.right
+    right_alike (g.A.Opening.words.kinds) (g.A.Application.meaning) c.args.given.seed _ _ _ c.serve_settings.result c.map-in-serve.result found c.serve_settings.ensures.right
     c.map-in-serve.ensures.cases
 
 pub returns-in-audit-clause-right : goal.returns-in-audit-clause-right
@@ -212,7 +233,7 @@ returns-in-audit-clause-right g c =
     let rows : List Row = rows_of (found_of c.in-Some.options.now) in
     let found = found_is c.args.matches.now (codes "audit") rows (search (rules, c.in-audit.is, c.in-Some.ensures.name))
     c.in-Some.ensures.rows in
-    right_alike (g.A.Opening.words.kinds) (g.A.Application.meaning) c.args.given _ _ _ c.audit_settings.result c.map-in-audit.result found
+    right_alike (g.A.Opening.words.kinds) (g.A.Application.meaning) c.args.given.seed _ _ _ c.audit_settings.result c.map-in-audit.result found
     (c.audit_settings.ensures.right (g.A.Application.meaning)) c.map-in-audit.ensures.cases
 
 pub returns-in-draw-clause-right : goal.returns-in-draw-clause-right
@@ -220,8 +241,16 @@ returns-in-draw-clause-right g c =
     let rows : List Row = rows_of (found_of c.in-Some.options.now) in
     let found = found_is c.args.matches.now (codes "draw") rows (search (rules, c.in-draw.is, c.in-Some.ensures.name))
     c.in-Some.ensures.rows in
-    right_alike (g.A.Opening.words.kinds) (g.A.Application.meaning) c.args.given _ _ _ c.draw_settings.result c.map-in-draw.result found
+    right_alike (g.A.Opening.words.kinds) (g.A.Application.meaning) c.args.given.seed _ _ _ c.draw_settings.result c.map-in-draw.result found
     (c.draw_settings.ensures.right (g.A.Application.meaning)) c.map-in-draw.ensures.cases
+
+pub returns-in-keys-clause-right : goal.returns-in-keys-clause-right
+returns-in-keys-clause-right g c =
+    let rows : List Row = rows_of (found_of c.in-Some.options.now) in
+    let found = found_is c.args.matches.now (codes "keys") rows (search (rules, c.in-keys.is, c.in-Some.ensures.name))
+    c.in-Some.ensures.rows in
+    right_alike (g.A.Opening.words.kinds) (g.A.Application.meaning) c.args.given.seed _ _ _ c.keys_settings.result c.map-in-keys.result found
+    (c.keys_settings.ensures.right (g.A.Application.meaning)) c.map-in-keys.ensures.cases
 
 pub returns-in_default-name-clause-right : goal.returns-in_default-name-clause-right
 returns-in_default-name-clause-right g c =
@@ -233,7 +262,7 @@ returns-in_default-name-clause-right g c =
         c.in_default-name.not-deliver,
         (
           c.in_default-name.not-simulate,
-          (c.in_default-name.not-cluster, (c.in_default-name.not-serve, (c.in_default-name.not-audit, c.in_default-name.not-draw))),
+          (c.in_default-name.not-cluster, (c.in_default-name.not-serve, (c.in_default-name.not-audit, (c.in_default-name.not-draw, c.in_default-name.not-keys)))),
         ),
       ),
     )

@@ -1,6 +1,8 @@
 use Rattle.std.proofs.Common.{◌∙◌, ap, sym, Vec, Global}
 use Rattle.std.specs.Prelude.{Some, option_map}
 use Rattle.ledger_model.specs.declared.history.History.{History}
+use Rattle.cluster_setup.specs.KnownClusters.{known_config}
+use Rattle.history_bytes.specs.HistoryReading.{histories_reading}
 use Rattle.byte_streams.proofs.Faults.{on_error}
 use Rattle.program.specs.Auditing.{Audited}
 use Rattle.program.proofs.HistoryOutputs.{outputs_nothing, outputs_histories, outputs_none}
@@ -9,7 +11,7 @@ use Rattle.program.proofs.auditing.audit.Goals as goal
 pub returns-in_err-histories-clause-audits : goal.returns-in_err-histories-clause-audits
 returns-in_err-histories-clause-audits g c =
     let s = c.args.settings.now in
-    on_error _ _ c.from_residual.ensures.0 (outputs_nothing s.cluster.config.frames
+    on_error _ _ c.from_residual.ensures.0 (outputs_nothing (known_config s.cluster).frames
     (Audited (g.A.Application.meaning) s) c.in_err-histories.ensures.read.0 _ _ _
     c.in_err-histories.ensures.read.1)
 
@@ -17,14 +19,14 @@ pub returns-in-Some-clause-audits : goal.returns-in-Some-clause-audits
 returns-in-Some-clause-audits g c =
     let s = c.args.settings.now in
     let (input, (whole, reads)) = c.in_ok-histories.ensures.read in
-    outputs_histories s.cluster.config.frames (Audited (g.A.Application.meaning) s) input _ _ c.audit_histories.result c.deref.result.now _
+    outputs_histories (known_config s.cluster).frames (Audited (g.A.Application.meaning) s) input _ _ c.audit_histories.result c.deref.result.now _
     _ whole
-    (reads ∙ ap (option_map (λ (h : Vec History Global). h.items)) c.in-Some.is ∙ ap Some (sym c.deref.ensures.value)) c.audit_histories.ensures.audits
+    (ap (λ config. histories_reading config.frames input) (sym c.config.ensures) ∙ reads ∙ ap (option_map (λ (h : Vec History Global). h.items)) c.in-Some.is ∙ ap Some (sym c.deref.ensures.value)) c.audit_histories.ensures.audits
 
 pub returns-in-None-clause-audits : goal.returns-in-None-clause-audits
 returns-in-None-clause-audits g c =
     let s = c.args.settings.now in
     let (input, (whole, none)) = c.in_ok-histories.ensures.read in
-    outputs_none s.cluster.config.frames (Audited (g.A.Application.meaning) s) input _ _ c.print_bad_history.result _ _ whole
-    (none ∙ ap (option_map (λ (h : Vec History Global). h.items)) c.in-None.is)
+    outputs_none (known_config s.cluster).frames (Audited (g.A.Application.meaning) s) input _ _ c.print_bad_history.result _ _ whole
+    (ap (λ config. histories_reading config.frames input) (sym c.config.ensures) ∙ none ∙ ap (option_map (λ (h : Vec History Global). h.items)) c.in-None.is)
     c.print_bad_history.ensures.written c.print_bad_history.ensures.ending

@@ -1,6 +1,6 @@
 use Rattle.std.proofs.Common.{◌∙◌}
 use Rattle.byte_streams.proofs.Faults.{on_error}
-use Rattle.program.proofs.RunningLemmas.{audit_explains, audited_done, draw_explains, drawn_done}
+use Rattle.program.proofs.RunningLemmas.{audit_explains, audited_done, draw_explains, drawn_done, published_done, published_halted}
 use Rattle.program.proofs.RunningLemmas.{signed_done, signed_halted, delivered_done, delivered_halted, played_done, played_halted}
 use Rattle.program.proofs.running.perform.Goals as goal
 
@@ -56,3 +56,15 @@ returns-in-Draw-clause-done g c = drawn_done (g.A.Opening.words.kinds) (g.A.Appl
 pub returns-in-Draw-clause-explains : goal.returns-in-Draw-clause-explains
 returns-in-Draw-clause-explains g c = draw_explains c.args.settings.now c.in-Draw.settings c.draw.result c.in-Draw.is
     c.draw.ensures.explains
+
+pub returns-in_err-publish-in-Keys-clause-done : goal.returns-in_err-publish-in-Keys-clause-done
+returns-in_err-publish-in-Keys-clause-done g c =
+    on_error _ _ c.from_residual-in_err-publish-in-Keys.ensures.0
+    (published_halted (g.A.Opening.words.kinds) (g.A.Application.meaning) c.args.settings.now c.in-Keys.cluster _ _ _ c.in-Keys.is
+    c.in_err-publish-in-Keys.ensures.written)
+
+pub returns-in_ok-publish-in-Keys-clause-done : goal.returns-in_ok-publish-in-Keys-clause-done
+returns-in_ok-publish-in-Keys-clause-done g c =
+    published_done (g.A.Opening.words.kinds) (g.A.Application.meaning) c.args.settings.now c.in-Keys.cluster c.plain-in-Keys.result.status _ _ _ c.in-Keys.is
+    c.plain-in-Keys.ensures.status
+    c.in_ok-publish-in-Keys.ensures.written

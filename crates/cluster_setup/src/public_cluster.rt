@@ -1,6 +1,6 @@
 //! What anyone may know of a cluster.
 ghost use Rattle.std.specs.Prelude.{◌≡◌, length, All};
-ghost use Rattle.cluster_files.specs.KeySizes.{HasSizes};
+ghost use Rattle.cluster_setup.specs.KeySizes.{HasSizes};
 
 use key_ring::KeyRing;
 use ledger_model::Config;

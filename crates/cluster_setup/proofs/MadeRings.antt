@@ -1,4 +1,4 @@
--- Public keys that were computed are of their parameter set: for callers that make a cluster from the key pairs of its replicas.
+-- Public keys that were computed are of their parameter set.
 use Rattle.std.proofs.Common.{ℕ, List, map, refl}
 use Rattle.std.specs.List.{All}
 use Rattle.std.proofs.lemmas.List.Elements.{All-map}
@@ -9,7 +9,7 @@ use Rattle.lm_ots.specs.declared.params.TreeHeight.TheVariants.{H5, H10}
 use Rattle.lm_ots.specs.declared.params.Width.{Width}
 use Rattle.lm_ots.specs.declared.params.Width.TheVariants.{W4, W8}
 use Rattle.lm_ots.specs.Parameters.{numbers_of}
-use Rattle.cluster_files.specs.KeySizes.{HasSizes}
+use Rattle.cluster_setup.specs.KeySizes.{HasSizes}
 
 sizes : (w : Width) (h : TreeHeight) (identifier seed : List ℕ)
     → HasSizes (record { width = w; height = h }) (public_key (numbers_of (record { width = w; height = h })) identifier seed)

@@ -1,8 +1,8 @@
 use Rattle.std.proofs.Common.{List, sym, subst}
 use Rattle.clap.specs.Words.{Row, found_of, rows_of}
-use Rattle.command_line.specs.SeedSources.{IsSource, IsSourceIn}
+use Rattle.command_line.specs.KeySources.{IsSource, IsSourceIn}
 use Rattle.command_line.proofs.MatchesLemmas.{found_is}
-use Rattle.command_line.proofs.seed_sources.source_of.Goals as goal
+use Rattle.command_line.proofs.key_sources.source_of.Goals as goal
 
 pub returns-in-Some : goal.returns-in-Some
 returns-in-Some c =
