@@ -1,6 +1,6 @@
 #!/usr/bin/env bash
-# What the documents name is there: each `NAME` (`FILE:LINE`) stands in that line, and each file named below crates/, docs/
-# or tests/ exists. The last line is `N passed, M failed`.
+# What the documents name is there: each `NAME` (`FILE:LINE`) stands in that line, each file named below crates/, docs/ or tests/ exists, and
+# so does what each link leads to. The last line is `N passed, M failed`.
 set -u
 cd "$(dirname "$0")/.." || exit 1
 passed=0
@@ -21,7 +21,7 @@ while read -r name file line; do
     else
         count no "$name is not in line $line of $file"
     fi
-done < <(grep -ohE '`[A-Za-z_]+` \(`[^`]*:[0-9]+`' README.md docs/*.md | sed -E 's/`([A-Za-z_]+)` \(`([^`]*):([0-9]+)`/\1 \2 \3/')
+done < <(grep -ohE '`[A-Za-z_]+` \(`[^`]*:[0-9]+`' *.md docs/*.md | sed -E 's/`([A-Za-z_]+)` \(`([^`]*):([0-9]+)`/\1 \2 \3/')
 
 while read -r file; do
     if [ -e "$file" ]; then
@@ -29,7 +29,14 @@ while read -r file; do
     else
         count no "there is no $file"
     fi
-done < <(grep -ohE '`(crates|docs|tests)/[A-Za-z0-9_/.-]*[A-Za-z0-9_]' README.md docs/*.md | tr -d '`' | grep -v -e '/out/' -e NAME | sort -u)
+done < <(grep -ohE '`(crates|docs|tests)/[A-Za-z0-9_/.-]*[A-Za-z0-9_]' *.md docs/*.md | tr -d '`' | grep -v -e '/out/' -e NAME | sort -u)
+
+while read -r found link; do
+    case $found in
+        ok) count yes ;;
+        *) count no "a link leads nowhere: $link" ;;
+    esac
+done < <(tests/links.py *.md docs/*.md)
 
 printf '%d passed, %d failed\n' "$passed" "$failed"
 [ "$failed" = 0 ]
