@@ -1,7 +1,8 @@
 # demo: a first look, in minutes: compiles the program without any proof, and plays a scenario: what was decided and run.
 # prove: proves the crates below the program, and the program, and builds it: crates/abft/out/abft. Each crate after those below it,
-#       several at a time (tests/prove.py). A line for each as it is proved, and what all of them took. CPU=x86-64-v3 builds it for
-#       processors with AVX2; on any other it ends at once with status 127.
+#       several at a time (tests/prove.py). A line for each as it is proved, and what all of them took. It is built for the processor that it
+#       runs on, with AVX2 where that has it (x86-64-v3; on a processor without it such a program ends at once with status 127);
+#       CPU=x86-64-v2 builds one to hand on. Then it plays a few runs (tests/first_runs.sh).
 # test: the merge gate (every proof from nothing, the edits in must-fail, the tests), then the built program in real pipes, whether
 #       the other edits apply, and the file lines that the documents name.
 # notary: the same for the program `notary`, an application of one's own: crates/notary/out/notary.
@@ -18,6 +19,7 @@
 SHELL := bash
 .SHELLFLAGS := -o pipefail -c
 CHROMIUM ?= chromium
+CPU ?= $(shell tests/cpu.sh)
 .PHONY: demo prove notary bench bench-v3 browser mutants soak test
 
 demo:
@@ -28,12 +30,13 @@ demo:
 prove:
 	@echo "proving the crates below the program, and the program, on $$(nproc) processors:"
 	@tests/prove.py abft
-	@cd crates/abft && mkdir -p out && { rt run $(if $(CPU),--cpu $(CPU)) --jobs $$(nproc) -- --version >out/said 2>&1 || { tail -n 20 out/said; exit 1; }; }
+	@cd crates/abft && mkdir -p out && { rt run --cpu $(CPU) --jobs $$(nproc) -- --version >out/said 2>&1 || { tail -n 20 out/said; exit 1; }; }
+	@ABFT=crates/abft/out/abft tests/first_runs.sh
 
 notary:
 	@echo "proving the crates below the program notary, and the program, on $$(nproc) processors:"
 	@tests/prove.py notary
-	@cd crates/notary && mkdir -p out && { rt run $(if $(CPU),--cpu $(CPU)) --jobs $$(nproc) -- --version >out/said 2>&1 || { tail -n 20 out/said; exit 1; }; }
+	@cd crates/notary && mkdir -p out && { rt run --cpu $(CPU) --jobs $$(nproc) -- --version >out/said 2>&1 || { tail -n 20 out/said; exit 1; }; }
 
 prove-%:
 	@tests/prove.py --also $*
