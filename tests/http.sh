@@ -40,7 +40,8 @@ runs 'a transaction is committed' 0 "0 0 $satoshi 0"$'\n' \
 runs 'by curl, as the tutorial writes it' 0 $'{"check_tx":{"code":0,' \
     "curl -s '$at/broadcast_tx_commit?tx=\"abcd\"' | grep -o '{\"check_tx\":{\"code\":0,' | tr -d '\\n'"
 again="$ask fields '/broadcast_tx_commit?tx=\"again=1\"' height"
-runs 'the same bytes once more are in a later block' 0 $'later\n' "first=\$($again); second=\$($again); [ \"\$second\" -gt \"\$first\" ] && echo later"
+runs 'the same bytes once more are in a later block' 0 $'later\n' "first=\$($again); $ask settle; second=\$($again); [ \"\$second\" -gt \"\$first\" ] && echo later"
+runs 'a query right after a commit sees its value' 0 $'20 seen; replica 0 was behind after some\n' "$ask own 20"
 runs 'its value is found' 0 $'exists b\'name\' b\'satoshi\'\n' "$ask value '/abci_query?data=\"name\"'"
 runs 'its value by curl' 0 '"value":"c2F0b3NoaQ=="' "curl -s '$at/abci_query?data=\"name\"' | grep -o '\"value\":\"[^\"]*\"' | tr -d '\\n'"
 runs 'a key without a value' 0 $'does not exist b\'nobody\' None\n' "$ask value '/abci_query?data=\"nobody\"'"
@@ -49,15 +50,16 @@ runs 'the height 0 is the last' 0 $'exists b\'name\' b\'satoshi\'\n' "$ask value
 runs 'another height' 0 $'400 -32602 the application answers as of its last block alone\n' "$ask error '/abci_query?data=\"name\"&height=4000'"
 
 # What is asked of a replica.
-runs 'a status' 0 $'abft replica 0 False 0\n' "$ask fields /status node_info.network node_info.moniker sync_info.catching_up abft.replica"
+runs 'a status' 0 $'abft replica 0 False 0\n' "$ask fields '/status?replica=0' node_info.network node_info.moniker sync_info.catching_up abft.replica"
 runs 'the status of another' 0 $'replica 3 3\n' "$ask fields '/status?replica=3' node_info.moniker abft.replica"
+runs 'the status of the replica with the most blocks' 0 $'same\n' "$ask fields /status node_info.moniker abft.replica | sed 's/^replica \\([0-3]\\) \\1\$/same/'"
 runs 'no such replica' 0 $'400 -32602 the cluster has no such replica\n' "$ask error '/status?replica=4'"
 runs 'the first block' 0 $'1 YT0x\n' "$ask fields '/block?height=1' block.header.height block.data.txs.0"
 runs 'no block at height 0' 0 $'500 -32603 the replica has not committed this height\n' "$ask error '/block?height=0'"
 runs 'no block above the last' 0 $'500 -32603 the replica has not committed this height\n' "$ask error '/block?height=4096'"
 runs 'the application' 0 $'kvstore\n' "$ask fields /abci_info response.data"
 runs 'its hash has 32 bytes' 0 $'32\n' "$ask fields /abci_info response.last_block_app_hash | base64 -d | wc -c"
-runs 'nothing waits' 0 $'0 0 0 None\n' "$ask fields /num_unconfirmed_txs n_txs total total_bytes txs"
+runs 'nothing waits' 0 $'0 0 0 None\n' "$ask settle; $ask fields /num_unconfirmed_txs n_txs total total_bytes txs"
 runs 'a whole reply' 0 $'HTTP/1.1 200 OK\r\nContent-Type: application/json\r\nContent-Length: 37\r\nConnection: close\r\n\r\n{"jsonrpc":"2.0","id":-1,"result":{}}' \
     "curl -si $at/health"
 runs 'the page' 0 $'<!DOCTYPE html>\n' "curl -s $at/ | sed -n 1p"
@@ -75,6 +77,7 @@ runs 'no parameter' 0 $'400 -32602 the parameter tx is missing or wrong\n' "$ask
 # An application outside of the ledger: each document is registered once, whatever else is in the blocks.
 one=$(printf one | sha256sum | cut -c1-64) two=$(printf two | sha256sum | cut -c1-64)
 for document in "$one" "$two" "$one"; do
+    $ask settle
     $ask fields "/broadcast_tx_commit?tx=0x$document" height >"$room/registered" 2>&1
 done
 state=$(printf "\\x80$(printf '\\x00%.0s' {1..7})\\x02$(printf '%s' "$one$two" | sed 's/../\\x&/g')" | sha256sum | cut -c1-64)

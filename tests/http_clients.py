@@ -6,6 +6,9 @@
     metrics [PATH]         whether the reply is text of Prometheus' format 0.0.4, and of which replicas each metric is
     counts TEXT HISTORIES  whether the counts of frames in the text of a reply are those of the histories that the server wrote at its end
     submits HISTORIES TX   to which replicas a transaction was submitted, by the histories that the server wrote at its end
+    settle                 waits until replica 0 has run what the replica with the most blocks has
+    own COUNT              how many commits, one after another, are seen by the query that follows each at once; and whether replica 0 had
+                           not yet run the block after some
     bytes HEX              the first line of the reply to these bytes, after which the client closes its side
     crowd COUNT            how many clients that send nothing are open while another is answered
     cut                    how long a client is read that sends a head byte by byte, and never its end
@@ -68,11 +71,15 @@ def ask(data):
         return rest_of(stream)
 
 
-def fields(path, *names):
+def result_of(path):
+    """The result in the JSON of a reply, which has status 200."""
     status, kind, body = get(path)
     assert (status, kind) == (200, "application/json"), (status, kind, body)
-    result = json.loads(body)["result"]
-    found = []
+    return json.loads(body)["result"]
+
+
+def fields(path, *names):
+    result, found = result_of(path), []
     for name in names:
         value = result
         for part in name.split("."):
@@ -149,6 +156,27 @@ def submits(histories, tx):
         written = read_histories(file.read())
     print("replicas:", *(replica for replica, entries in sorted(written.items())
                          if any(entry.kind == "submit" and entry.given == tx.encode() for entry in entries)))
+
+
+def height_of(path):
+    return int(result_of(path)["sync_info"]["latest_block_height"])
+
+
+def settle():
+    wanted, end = height_of("/status"), time.monotonic() + 60
+    while height_of("/status?replica=0") < wanted:
+        assert time.monotonic() < end, f"replica 0 doesn't run block {wanted}"
+        time.sleep(0.02)
+
+
+def own(count):
+    seen = behind = 0
+    for number in range(int(count)):
+        height = int(result_of(f'/broadcast_tx_commit?tx="own={number}"')["height"])
+        found = result_of('/abci_query?data="own"')["response"]
+        seen += found["value"] is not None and base64.b64decode(found["value"]) == str(number).encode() and int(found["height"]) >= height
+        behind += height_of("/status?replica=0") < height
+    print(f"{seen} seen;", "replica 0 was behind after some" if behind else "replica 0 was never behind")
 
 
 def crowd(count):

@@ -50,7 +50,7 @@ class Server:
         return [tuple(self.result(f"/block?height={h}")["block"]["data"]["txs"]) for h in range(1, height + 1)]
 
     def round(self):
-        return self.result("/status")["abft"]["round"]
+        return self.result("/status?replica=0")["abft"]["round"]
 
     def close(self):
         self.process.stdin.close()
@@ -147,9 +147,14 @@ class Watch:
         self.heights = collections.Counter()
         self.blocks, self.queries, self.statuses = {}, [], collections.Counter()
 
+    def known(self, replica):
+        """The least height that a request may now show: the replica's, and that of all replicas if it names none, since the one with the
+        most blocks answers."""
+        return max(self.heights.values(), default=0) if replica is None else self.heights[replica]
+
     def height(self, replica, height):
-        height = int(height)
-        assert height >= self.heights[replica], f"the height of replica {replica} fell from {self.heights[replica]} to {height}"
+        height, known = int(height), self.known(replica)
+        assert height >= known, f"the height of replica {replica} fell from {known} to {height}"
         self.heights[replica] = height
 
     def block(self, result):
@@ -164,12 +169,14 @@ class Watch:
 
     def result(self, path, replica, given, result):
         """The result of a call is of what was asked."""
-        replica = replica or 0
         if path == "/health":
             assert result == {}, result
         elif path == "/status":
-            assert result["abft"]["replica"] == replica and result["node_info"]["moniker"] == f"replica {replica}", result
+            shown = result["abft"]["replica"]
+            assert shown == replica or replica is None and shown in range(REPLICAS), result
+            assert result["node_info"]["moniker"] == f"replica {shown}", result
             self.height(replica, result["sync_info"]["latest_block_height"])
+            self.height(shown, result["sync_info"]["latest_block_height"])
         elif path == "/abci_info":
             assert len(base64.b64decode(result["response"]["last_block_app_hash"])) == 32, result
             self.height(replica, result["response"]["last_block_height"])
@@ -186,12 +193,12 @@ class Watch:
             self.queries.append((given["data"], int(response["height"]), response["value"]))
         else:
             assert result["code"] == 0 and result["hash"] == hashlib.sha256(given["tx"]).hexdigest().upper(), result
-            assert result["abft"]["replica"] == replica, result
+            assert result["abft"]["replica"] == (replica or 0), result
 
     def fault(self, path, replica, given, status, text):
         """Why a request has no answer that asks something."""
         if path == "/block":
-            wanted, known = given["height"], self.heights[replica or 0]
+            wanted, known = given["height"], self.known(replica)
             assert (status, text) == (500, "the replica has not committed this height"), (status, text)
             assert wanted is None and known == 0 or wanted is not None and not 0 < wanted <= known, f"no block {wanted} below {known}"
         elif path == "/abci_query":

@@ -50,7 +50,7 @@ document=$(printf 'a contract' | sha256sum | cut -d ' ' -f 1)
 runs 'the application of a live cluster' 0 $'own\n' "$ask fields /abci_info response.data"
 runs 'a document is registered' 0 $'0 0\n' "$ask fields '/broadcast_tx_commit?tx=0x$document' check_tx.code deliver_tx.code"
 runs 'its number' 0 $'AAAAAQ==\n' "$ask fields '/abci_query?data=0x$document' response.value"
-runs 'it is not registered again' 0 $'2 0\n' "$ask fields '/broadcast_tx_commit?tx=0x$document' check_tx.code height"
+runs 'it is not registered again' 0 $'2 0\n' "$ask settle; $ask fields '/broadcast_tx_commit?tx=0x$document' check_tx.code height"
 runs 'what is no digest' 0 $'1\n' "$ask fields '/broadcast_tx_sync?tx=\"a=1\"' code"
 runs 'the hash of its state' 0 "$(state "$first" "$document")"$'\n' \
     "$ask fields /abci_info response.last_block_app_hash | base64 -d | od -An -v -tx1 | tr -d ' \\n'; echo"

@@ -1,5 +1,4 @@
 -- The first block among the entries of a history that has a transaction, entry by entry.
-use Rattle.ledger_model.specs.Meanings.{Meanings}
 use Rattle.std.proofs.Common.{◌≡◌, ℕ, ◌+◌, ◌≤◌, List, ◌∷◌, suc, length, drop, ap, sym, ◌∙◌, arith}
 use Rattle.std.specs.Option.{option_or}
 use Rattle.std.specs.Prelude.{Option, Some, None, slice_get}
@@ -9,10 +8,7 @@ use Rattle.std.proofs.lemmas.Option.{get_or_from_slice_get, slice_get_within}
 use Rattle.ledger_model.specs.Values.{Value}
 use Rattle.ledger_model.specs.declared.history.Entry.{Entry}
 use Rattle.ledger_model.specs.declared.reply.Reply.{Reply}
-use Rattle.locked_replica.specs.States.{StateView}
-use Rattle.cluster_workers.specs.RunningClusters.{RunningClusterView}
-use Rattle.cluster_service.specs.Deliveries.{IsDelivery, delivered_by, delivered_in}
-use Rattle.cluster_service.specs.Inquiries.{SeesOwn}
+use Rattle.cluster_service.specs.Deliveries.{delivered_by, delivered_in}
 
 module _ (batches : List Value) (es : List Entry) (tx : List ℕ) (i : ℕ) where
   -- no entries are left
@@ -36,20 +32,3 @@ module _ (batches : List Value) (es : List Entry) (tx : List ℕ) (i : ℕ) wher
         ap (λ n. delivered_in batches (drop n es) tx) next
         ∙ sym (ap (λ l. delivered_in batches l tx) split
         ∙ ap (λ o. option_or o (delivered_in batches (drop (suc i) es) tx)) (sym (by ∙ ap (λ s. delivered_by batches s tx) same)))
-
--- what was run by an entry or a later one was run by an earlier entry or a later one
-from_earlier : (meaning : Meanings) (tx : List ℕ) (index next height code : ℕ) (state : StateView) → index ≤ next
-    → IsDelivery meaning tx next height code state → IsDelivery meaning tx index height code state
-from_earlier meaning tx index next height code state before is = record {
-  replay = is.replay;
-  after = is.after;
-  later = omega (arith, before, is.later);
-  found = is.found;
-}
-
-pub seen_earlier : (meaning : Meanings) (cluster : RunningClusterView) (r : ℕ) (seen : Option StateView) (tx : List ℕ)
-    (index next height code : ℕ) → index ≤ next
-    → SeesOwn cluster r seen (IsDelivery meaning tx next height code) → SeesOwn cluster r seen (IsDelivery meaning tx index height code)
-seen_earlier meaning cluster r (Some state) tx index next height code before sees =
-    (sees.0, from_earlier meaning tx index next height code state before sees.1)
-seen_earlier meaning cluster r None tx index next height code before sees = absurd sees

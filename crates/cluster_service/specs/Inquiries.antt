@@ -1,6 +1,6 @@
 -- What is answered to HTTP alone: the state that was seen under the replica's lock is that replica's, and the answer follows from it.
 use Rattle.ledger_model.specs.Meanings.{Meanings}
-use Rattle.std.specs.Prelude.{◌≡◌, ℕ, ◌+◌, ◌^◌, ◌-◌, ⊤, List, drop, length, min, sum_by, Option, Some, None, slice_get}
+use Rattle.std.specs.Prelude.{◌≡◌, ◌⊎◌, ℕ, ◌<◌, ◌+◌, ◌^◌, ◌-◌, ⊤, List, drop, length, min, sum_by, Option, Some, None, slice_get}
 use Rattle.http_messages.specs.FrameCounts.{ignored_for}
 use Rattle.http_messages.specs.declared.metrics.ReplicaMetrics.{ReplicaMetrics}
 use Rattle.http_sessions.specs.declared.targets.AppInfo.{AppInfo}
@@ -57,33 +57,59 @@ pub record IsUndelivered (meaning : Meanings) (tx : List ℕ) (index : ℕ) (sta
   pub replay : Replay meaning state.config state.ring state.id state.entries
   pub none : delivered_in (commits_of state.config state.id state.entries) (drop index state.entries) tx ≡ None
 
--- the state that was seen last is this replica's, and this holds of it
+-- the states that an inquiry saw under the locks of replicas: the last, and the one of the replica that took a transaction as a wait for its
+-- block looked at that replica
+pub record SeenView : Type 0 where
+  pub last : Option StateView
+  pub taker : Option StateView
+
+-- the state that was seen is this replica's, and this holds of it
 abbrev pub SeesOwn : RunningClusterView → ℕ → Option StateView → (StateView → Type 0) → Type 0
 SeesOwn cluster r (Some state) P = IsStateOf cluster r state × P state
 SeesOwn cluster r None P = ⊥
 
--- the state that was seen last isn't this replica's
+-- the state that was seen isn't this replica's
 abbrev pub SeesStranger : RunningClusterView → ℕ → Option StateView → Type 0
 SeesStranger cluster r (Some state) = IsStateOf cluster r state → ⊥
 SeesStranger cluster r None = ⊥
 
--- what became of a transaction that the entry with this index submitted; that the server is to stop says nothing
-abbrev pub AnswersWait : Meanings → RunningClusterView → ℕ → Option StateView → List ℕ → ℕ → Option Delivery → Type 0
-AnswersWait meaning cluster r seen tx index (Some (Committed height code)) = SeesOwn cluster r seen
-    (IsDelivery meaning tx index height code)
-AnswersWait meaning cluster r seen tx index (Some TimedOut) = SeesOwn cluster r seen (IsUndelivered meaning tx index)
-AnswersWait meaning cluster r seen tx index (Some Stopping) = ⊤
-AnswersWait meaning cluster r seen tx index None = SeesStranger cluster r seen
+-- the state, whose history is lawful and has the entry with this index, has no block with the transaction from that entry on, and no block at
+-- this height or above
+pub record IsPendingBelow (meaning : Meanings) (tx : List ℕ) (index height : ℕ) (state : StateView) : Type 0 where
+  pub submitted : index < length state.entries
+  pub undelivered : IsUndelivered meaning tx index state
+  pub below : length (commits_of state.config state.id state.entries) < height
 
--- what an inquiry says, by the state that was seen last in it; that a transaction was spread says nothing
-abbrev pub IsInquiry : Meanings → RunningClusterView → Option StateView → Inquiry → Type 0
-IsInquiry meaning cluster seen (Shows r (Some m)) = SeesOwn cluster r seen (ShowsState meaning m)
-IsInquiry meaning cluster seen (Shows r None) = SeesStranger cluster r seen
-IsInquiry meaning cluster seen (Progresses r (Some progress)) = SeesOwn cluster r seen (IsProgress meaning progress)
-IsInquiry meaning cluster seen (Progresses r None) = SeesStranger cluster r seen
-IsInquiry meaning cluster seen (Pools r (Some size)) = SeesOwn cluster r seen (IsPooled meaning size)
-IsInquiry meaning cluster seen (Pools r None) = SeesStranger cluster r seen
-IsInquiry meaning cluster seen (Infos r (Some info)) = SeesOwn cluster r seen (IsInfo meaning info)
-IsInquiry meaning cluster seen (Infos r None) = SeesStranger cluster r seen
+-- a replica of the cluster, whose state was seen last, has run a block at this height, which has the transaction, and the application returned
+-- this code for it
+pub record IsDeliveredBySome (meaning : Meanings) (cluster : RunningClusterView) (last : Option StateView) (tx : List ℕ) (height code : ℕ)
+    : Type 0 where
+  pub replica : ℕ
+  pub known : replica < cluster.replicas
+  pub delivered : SeesOwn cluster replica last (IsDelivery meaning tx 0 height code)
+
+-- The block with the transaction came after the entry with this index, in which replica `r` took it. Either `r`, seen last, ran the block by
+-- that entry or a later one; or some replica, seen last, ran it, and `r` was seen with that entry and without a block at this height.
+abbrev pub IsDeliveredAfter : Meanings → RunningClusterView → ℕ → SeenView → List ℕ → ℕ → ℕ → ℕ → Type 0
+IsDeliveredAfter meaning cluster r seen tx index height code = SeesOwn cluster r seen.last (IsDelivery meaning tx index height code)
+    ⊎ (IsDeliveredBySome meaning cluster seen.last tx height code × SeesOwn cluster r seen.taker (IsPendingBelow meaning tx index height))
+
+-- what became of a transaction that the entry with this index of replica `r` submitted; that the server is to stop says nothing
+abbrev pub AnswersWait : Meanings → RunningClusterView → ℕ → SeenView → List ℕ → ℕ → Option Delivery → Type 0
+AnswersWait meaning cluster r seen tx index (Some (Committed height code)) = IsDeliveredAfter meaning cluster r seen tx index height code
+AnswersWait meaning cluster r seen tx index (Some TimedOut) = SeesOwn cluster r seen.last (IsUndelivered meaning tx index)
+AnswersWait meaning cluster r seen tx index (Some Stopping) = ⊤
+AnswersWait meaning cluster r seen tx index None = SeesStranger cluster r seen.last
+
+-- what an inquiry says, by the states that were seen in it; that a transaction was spread says nothing
+abbrev pub IsInquiry : Meanings → RunningClusterView → SeenView → Inquiry → Type 0
+IsInquiry meaning cluster seen (Shows r (Some m)) = SeesOwn cluster r seen.last (ShowsState meaning m)
+IsInquiry meaning cluster seen (Shows r None) = SeesStranger cluster r seen.last
+IsInquiry meaning cluster seen (Progresses r (Some progress)) = SeesOwn cluster r seen.last (IsProgress meaning progress)
+IsInquiry meaning cluster seen (Progresses r None) = SeesStranger cluster r seen.last
+IsInquiry meaning cluster seen (Pools r (Some size)) = SeesOwn cluster r seen.last (IsPooled meaning size)
+IsInquiry meaning cluster seen (Pools r None) = SeesStranger cluster r seen.last
+IsInquiry meaning cluster seen (Infos r (Some info)) = SeesOwn cluster r seen.last (IsInfo meaning info)
+IsInquiry meaning cluster seen (Infos r None) = SeesStranger cluster r seen.last
 IsInquiry meaning cluster seen (Spreads r tx) = ⊤
 IsInquiry meaning cluster seen (Waits r tx index delivery) = AnswersWait meaning cluster r seen tx index delivery

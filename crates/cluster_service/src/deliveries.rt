@@ -1,5 +1,5 @@
-//! Finds the block that has a transaction, among the entries of a history from one on.
-ghost use Rattle.std.specs.Prelude.{◌≡◌, drop, position, IfNone, IfSome};
+//! Finds the block that has a transaction: among the entries of a history from one on, or among the blocks above a height.
+ghost use Rattle.std.specs.Prelude.{◌≡◌, ◌<◌, drop, position, IfNone, IfSome};
 ghost use Rattle.std.specs.Str.{bytes_eq};
 ghost use Rattle.ledger_model.specs.Commits.{commits_of};
 ghost use Rattle.locked_replica.specs.Views.{reply_lent};
@@ -75,4 +75,50 @@ pub(crate) fn delivered_after<A: Application>(
         }
     }
     None
+}
+
+/// The least height above this one at which the replica's block has the transaction.
+fn height_above<A: Application>(state: &State<A>, above: u32, tx: &[u8]) -> Option<Height>
+    ensures { IfSome result (λ height. above < height) }
+{
+    for number in above..state.height() {
+        let height = Height::new(number + 1);
+        if let Some(batch) = state.block(height) {
+            if place_of(batch.transactions(), tx).is_some() {
+                return Some(height);
+            }
+        }
+    }
+    None
+}
+
+/// The application's code for the transaction in the block at this height. Only entries from the one on that ran the block are looked at.
+fn code_at<A: Application>(state: &State<A>, height: Height, tx: &[u8]) -> Option<u32>
+    ensures { IfSome result (λ code. IsDelivery A.meaning tx.now 0 height code state.now) }
+{
+    for index in (0..state.len()).rev() {
+        let Some(entry) = state.entry(index) else {
+            unreachable!();
+        };
+        match delivered_at(state, &entry.reply(), tx) {
+            Some((found, code)) if found == height => return Some(code),
+            _ => {}
+        }
+    }
+    None
+}
+
+/// The height of the first block above this height that has the transaction, and the application's code for it.
+pub(crate) fn delivered_above<A: Application>(
+    state: &State<A>,
+    above: u32,
+    tx: &[u8],
+) -> Option<(Height, u32)>
+    ensures above { IfSome result (λ found. above < found.0) }
+    // The result as HTTP sees it.
+    ensures delivery { IfSome result (λ found. IsDelivery A.meaning tx.now 0 found.0 found.1 state.now) }
+{
+    let height = height_above(state, above, tx)?;
+    let code = code_at(state, height, tx)?;
+    Some((height, code))
 }

@@ -29,6 +29,7 @@ mod protocol;
 mod replicas;
 mod running;
 mod saving;
+mod seen_states;
 mod servers;
 mod serving;
 mod showing;

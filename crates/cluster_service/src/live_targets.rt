@@ -1,10 +1,10 @@
 //! The replicas of a running cluster, as targets of a session, and of a request of HTTP.
-ghost use Rattle.std.specs.Prelude.{◌≡◌, ◌<◌, true, false, Some, length, option_map};
+ghost use Rattle.std.specs.Prelude.{◌≡◌, ◌<◌, length};
 ghost use Rattle.cluster_service.specs.Targets.{AnswersSubmit};
-ghost use Rattle.cluster_workers.specs.RunningClusters.{IsStateOf};
 
 use crate::asking::{block, query, submit};
 use crate::budgets::ClientBudget;
+use crate::seen_states::SeenStates;
 use crate::showing::{app_info, metrics_of, pool_size, progress_of};
 use crate::waiting::{Awaited, wait_for};
 use abci::Application;
@@ -14,9 +14,7 @@ use commit_board::ReaderSeat;
 use http_messages::ReplicaMetrics;
 use http_sessions::{AppInfo, Delivery, HttpTargets, PoolSize, Progress};
 use ledger_model::{ApplyFault, Batch, Height, QueryAnswer, ReplicaId, SubmitRefusal};
-use locked_replica::State;
 use std::alloc::Global;
-use std::snapshot::Snapshot;
 use std::sync::Wait;
 use std::time::Clock;
 
@@ -30,8 +28,7 @@ pub struct LiveTargets<'a, A: Application, R: Wait> {
     budgets: &'a [ClientBudget],
     seat: ReaderSeat,
     stop: &'a Stop,
-    /// The state that an inquiry saw last under a replica's lock, which only contracts read.
-    seen: Option<Snapshot<State<A>>>,
+    seen: SeenStates<A>,
     ghost tied: { seat.board ≡ cluster.now.board },
     ghost some: { 0 < cluster.now.replicas },
     ghost each: { length budgets.now ≡ cluster.now.replicas },
@@ -62,24 +59,9 @@ impl<'a, A: Application, R: Wait> LiveTargets<'a, A, R> {
             budgets,
             seat,
             stop,
-            seen: None,
+            seen: SeenStates::new(),
         }
     }
-}
-
-/// Notes the state that was seen under the lock of the replica with this number, and returns whether it is that replica's.
-pub(crate) fn see<A: Application>(
-    cluster: &RunningCluster<A>,
-    replica: ReplicaId,
-    state: &State<A>,
-    seen: &mut Option<Snapshot<State<A>>>,
-) -> bool
-    ensures seen { option_map (λ s. s.value) seen.new ≡ Some state.now }
-    ensures own { result ≡ true → IsStateOf cluster.now replica state.now }
-    ensures other { result ≡ false → IsStateOf cluster.now replica state.now → ⊥ }
-{
-    *seen = Some(Snapshot::of(state));
-    cluster.is_state_of(replica, state)
 }
 
 impl<A: Application, R: Wait> LiveTargets<'_, A, R> {
@@ -134,10 +116,9 @@ impl<A: Application, R: Wait> Targets for LiveTargets<'_, A, R> {
 }
 
 impl<A: Application, R: Clock + Wait> HttpTargets for LiveTargets<'_, A, R> {
-    ghost use Rattle.std.specs.Prelude.{option_map};
     ghost use Rattle.cluster_service.specs.Inquiries.{IsInquiry};
 
-    ghost inquires = { λ old inquiry new. IsInquiry A.meaning old.cluster.now (option_map (λ s. s.value) new.seen) inquiry };
+    ghost inquires = { λ old inquiry new. IsInquiry A.meaning old.cluster.now new.seen inquiry };
 
     fn metrics(&mut self, replica: ReplicaId) -> Option<ReplicaMetrics> {
         let cluster = self.cluster;
@@ -145,7 +126,7 @@ impl<A: Application, R: Clock + Wait> HttpTargets for LiveTargets<'_, A, R> {
         let _turn = self.budgets[usize::from(replica.number())].lock(self.rt);
         let lost = cluster.lost(replica);
         let state = cluster.replica(replica).lock(self.rt);
-        if !see(cluster, replica, &*state, &mut self.seen) {
+        if !self.seen.see(cluster, replica, &*state) {
             return None;
         }
         Some(metrics_of(replica, lost, &*state))
@@ -154,7 +135,7 @@ impl<A: Application, R: Clock + Wait> HttpTargets for LiveTargets<'_, A, R> {
     fn progress(&mut self, replica: ReplicaId) -> Option<Progress> {
         let cluster = self.cluster;
         let state = cluster.replica(replica).lock(self.rt);
-        if !see(cluster, replica, &*state, &mut self.seen) {
+        if !self.seen.see(cluster, replica, &*state) {
             return None;
         }
         Some(progress_of(&*state))
@@ -163,7 +144,7 @@ impl<A: Application, R: Clock + Wait> HttpTargets for LiveTargets<'_, A, R> {
     fn pool(&mut self, replica: ReplicaId) -> Option<PoolSize> {
         let cluster = self.cluster;
         let state = cluster.replica(replica).lock(self.rt);
-        if !see(cluster, replica, &*state, &mut self.seen) {
+        if !self.seen.see(cluster, replica, &*state) {
             return None;
         }
         Some(pool_size(&*state))
@@ -172,7 +153,7 @@ impl<A: Application, R: Clock + Wait> HttpTargets for LiveTargets<'_, A, R> {
     fn info(&mut self, replica: ReplicaId) -> Option<AppInfo> {
         let cluster = self.cluster;
         let state = cluster.replica(replica).lock(self.rt);
-        if !see(cluster, replica, &*state, &mut self.seen) {
+        if !self.seen.see(cluster, replica, &*state) {
             return None;
         }
         Some(app_info(&*state))

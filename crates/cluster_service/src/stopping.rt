@@ -13,22 +13,24 @@ use std::time::{Clock, Duration};
 /// The most bytes that are read at once.
 const PIECE_LEN: usize = 4096;
 
-/// How many milliseconds pass before an input is read again: reading one that has no end, or that has nothing to read and would not
-/// wait, takes next to no processor time.
+/// How many milliseconds pass before an input is read again that had nothing to read and didn't wait, or that filled the whole piece: reading an
+/// input that never ends takes next to no processor time, and no typed line delays the end of its input.
 const REST_MS: u64 = 50;
 
 /// Reads an input until it ends or can't be read any more. A terminal whose reads return at once (VMIN 0) counts as ended.
 fn read_to_end<R: Clock, I: Read>(rt: &R, input: &mut I) {
     let mut piece = [0; PIECE_LEN];
     for _ in 0..u64::MAX {
-        match input.read(&mut piece) {
+        let rests = match input.read(&mut piece) {
             Ok(0) => break,
-            Ok(_) => {}
-            Err(error) if error.kind() == ErrorKind::Interrupted => {}
-            Err(error) if error.kind() == ErrorKind::WouldBlock => {}
+            Ok(count) => count == PIECE_LEN,
+            Err(error) if error.kind() == ErrorKind::Interrupted => true,
+            Err(error) if error.kind() == ErrorKind::WouldBlock => true,
             Err(_) => break,
+        };
+        if rests {
+            let _ = thread::sleep(rt, Duration::from_millis(REST_MS));
         }
-        let _ = thread::sleep(rt, Duration::from_millis(REST_MS));
     }
 }
 

@@ -1,3 +1,4 @@
+mod FurthestLemmas
 mod Reading
 mod Replying
 mod Showing

@@ -10,12 +10,12 @@ use Rattle.http_sessions.specs.Exchanges.{HttpExchange, Inquired, Shows}
 use Rattle.http_sessions.specs.Answering.{exchanges_of_metrics}
 
 -- the numbers of one replica more
-pub each_more : (all : List ReplicaMetrics) (m : ReplicaMetrics) (n : ℕ) → map (λ x. x.replica) all ≡ range_with_len 0 n → m.replica ≡ n
-    → map (λ x. x.replica) (all ++ m ∷ []) ≡ range_with_len 0 (n + 1)
-each_more all m n each is =
-    let last : m.replica ≡ 0 + n = omega (arith, is) in
+pub each_more : {X : Type 0} (number : X → ℕ) (all : List X) (x : X) (n : ℕ) → map number all ≡ range_with_len 0 n → number x ≡ n
+    → map number (all ++ x ∷ []) ≡ range_with_len 0 (n + 1)
+each_more number all x n each is =
+    let last : number x ≡ 0 + n = omega (arith, is) in
     let next : suc n ≡ n + 1 = omega arith in
-    map-append (λ x. x.replica) all (m ∷ []) ∙ ap (λ l. l ++ m.replica ∷ []) each ∙ ap (λ k. range_with_len 0 n ++ k ∷ []) last
+    map-append number all (x ∷ []) ∙ ap (λ l. l ++ number x ∷ []) each ∙ ap (λ k. range_with_len 0 n ++ k ∷ []) last
     ∙ sym (range_more 0 n) ∙ ap (range_with_len 0) next
 
 -- one exchange more

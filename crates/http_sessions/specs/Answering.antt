@@ -28,6 +28,7 @@ use Rattle.http_sessions.specs.declared.targets.Delivery.TheVariants as delivery
 use Rattle.http_sessions.specs.declared.targets.PoolSize.{PoolSize}
 use Rattle.http_sessions.specs.declared.targets.Progress.{Progress}
 use Rattle.http_sessions.specs.Exchanges.{HttpExchange, Asked, Inquired, Shows, Progresses, Pools, Infos, Spreads, Waits}
+use Rattle.http_sessions.specs.Furthest.{IsFurthest, exchanges_of_heights}
 
 -- ---- answers by what a replica answered; if it showed nothing, its lock guards another replica's state
 
@@ -210,8 +211,28 @@ pub record AnswersIf (count r : ℕ) (q : QuestionView) (exchanges : List HttpEx
 abbrev pub most_replicas : ℕ
 most_replicas = 256
 
--- a question to the replica that it names, else to replica 0, and for metrics to all
+-- each of `count` replicas was asked for its height, and then the question was put to the first of those that have committed most
+pub record AsksFurthest (count : ℕ) (q : QuestionView) (exchanges : List HttpExchange) (a : AnswerView) : Type 0 where
+  pub pairs : List (ℕ × ℕ)
+  pub replica : ℕ
+  pub height : ℕ
+  pub furthest : IsFurthest count pairs replica height
+  pub rest : List HttpExchange
+  pub asked : exchanges ≡ exchanges_of_heights pairs ++ rest
+  pub answers : AnswersAt replica q rest a
+
+-- a question to the first of those of `count` replicas that have committed most; if there are no replicas, nothing is asked
+pub record AnswersFurthest (count : ℕ) (q : QuestionView) (exchanges : List HttpExchange) (a : AnswerView) : Type 0 where
+  pub some : 0 < count → AsksFurthest (min count most_replicas) q exchanges a
+  pub none : count ≡ 0 → AsksNone (Unanswered service.NoReplica) exchanges a
+
+-- A question to the replica that it names. If it names none: about what is committed, to the first of those that have committed most; about
+-- metrics, to all; else to replica 0.
 abbrev pub AnswersQuestion : ℕ → Option ℕ → QuestionView → List HttpExchange → AnswerView → Type 0
+AnswersQuestion count None question.Status exchanges a = AnswersFurthest count question.Status exchanges a
+AnswersQuestion count None question.AbciInfo exchanges a = AnswersFurthest count question.AbciInfo exchanges a
+AnswersQuestion count None (question.AbciQuery key height) exchanges a = AnswersFurthest count (question.AbciQuery key height) exchanges a
+AnswersQuestion count None (question.Block height) exchanges a = AnswersFurthest count (question.Block height) exchanges a
 AnswersQuestion count None question.Metrics exchanges a = AnswersAllMetrics (min count most_replicas) exchanges a
 AnswersQuestion count named q exchanges a = AnswersIf count (unwrap_or named 0) q exchanges a
 
@@ -237,6 +258,20 @@ pub record Loses {T : Type 0} (makes : T → HttpExchange → T → Type 0) (bef
   pub exchanges : List HttpExchange
   pub made : FoldsTo makes before exchanges after
   pub whole : (exchanges ≡ []) ⊎ ((answer : AnswerView) × Gives exchanges answer)
+
+-- memory ran out for the reply, after all was asked
+pub record LosesReply {T : Type 0} (makes : T → HttpExchange → T → Type 0) (before after : T)
+    (Gives : List HttpExchange → AnswerView → Type 0) : Type 0 where
+  pub exchanges : List HttpExchange
+  pub answer : AnswerView
+  pub made : FoldsTo makes before exchanges after
+  pub gives : Gives exchanges answer
+
+-- all was asked that gives an answer; the result is the reply to that answer, or that memory ran out for it
+abbrev pub AsksAll : {T E : Type 0} → Result (Vec ℕ Global) E → (T → HttpExchange → T → Type 0) → T → T
+    → (List HttpExchange → AnswerView → Type 0) → Type 0
+AsksAll result makes before after Gives =
+    MatchResult result (λ reply. RepliesByExchanges makes before after Gives reply.items) (λ _. LosesReply makes before after Gives)
 
 -- the reply to the answer that exchanges give, or that memory ran out
 abbrev pub RepliesOrLoses : {T E : Type 0} → Result (Vec ℕ Global) E → (T → HttpExchange → T → Type 0) → T → T

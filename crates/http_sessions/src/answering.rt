@@ -3,12 +3,13 @@ ghost use Rattle.std.specs.Prelude.{◌≡◌, ◌<◌, ◌≤◌, ◌++◌, ◌
 ghost use Rattle.std.specs.List.{FoldsTo, range_with_len};
 ghost use Rattle.http_messages.specs.Questions.{question_view};
 ghost use Rattle.http_sessions.specs.Exchanges.{Makes, Inquired, Shows};
-ghost use Rattle.http_sessions.specs.Answering.{RepliesOrLoses, AnswersRequest, AnswersQuestion, AnswersIf, AnswersAt, AnswersStatus, AnswersInfo, AnswersQueryNow, AnswersQueryAt, AnswersQueryIf, AnswersBlockAt, AnswersLastBlock, AnswersBlockQuestion, AnswersPool, AnswersSync, AnswersCommit, AnswersMetrics, AnswersAllMetrics, most_replicas, exchanges_of_metrics};
+ghost use Rattle.http_sessions.specs.Answering.{AsksAll, RepliesOrLoses, AnswersRequest, AnswersQuestion, AnswersFurthest, AnswersIf, AnswersAt, AnswersStatus, AnswersInfo, AnswersQueryNow, AnswersQueryAt, AnswersQueryIf, AnswersBlockAt, AnswersLastBlock, AnswersBlockQuestion, AnswersPool, AnswersSync, AnswersCommit, AnswersMetrics, AnswersAllMetrics, most_replicas, exchanges_of_metrics};
 
 use crate::answers::{
     block_answer, delivery_answer, fault_answer, info_answer, pool_answer, query_answer,
     query_answer_at, reply_to, status_answer, sync_answer,
 };
+use crate::furthest::furthest;
 use crate::targets::HttpTargets;
 use http_messages::{
     Answer, Commitment, Question, ReplicaMetrics, Request, RequestFault, ServiceFault,
@@ -25,7 +26,7 @@ type Reply = Result<Vec<u8>, AllocError>;
 /// How far a replica is.
 fn status<T: HttpTargets>(alloc: Global, targets: &mut T, replica: ReplicaId) -> Reply
     requires { replica < T.replicas targets.old }
-    ensures replies { RepliesOrLoses result (Makes T.asks T.inquires) targets.old targets.new (AnswersStatus replica) }
+    ensures replies { AsksAll result (Makes T.asks T.inquires) targets.old targets.new (AnswersStatus replica) }
     ensures count { T.replicas targets.new ≡ T.replicas targets.old }
 {
     let progress = targets.progress(replica);
@@ -35,7 +36,7 @@ fn status<T: HttpTargets>(alloc: Global, targets: &mut T, replica: ReplicaId) ->
 /// What a replica's application says of itself.
 fn app_info<T: HttpTargets>(alloc: Global, targets: &mut T, replica: ReplicaId) -> Reply
     requires { replica < T.replicas targets.old }
-    ensures replies { RepliesOrLoses result (Makes T.asks T.inquires) targets.old targets.new (AnswersInfo replica) }
+    ensures replies { AsksAll result (Makes T.asks T.inquires) targets.old targets.new (AnswersInfo replica) }
     ensures count { T.replicas targets.new ≡ T.replicas targets.old }
 {
     let info = targets.info(replica);
@@ -45,7 +46,7 @@ fn app_info<T: HttpTargets>(alloc: Global, targets: &mut T, replica: ReplicaId) 
 /// What a replica's application has under a key, as of its last block.
 fn query<T: HttpTargets>(alloc: Global, targets: &mut T, replica: ReplicaId, key: &[u8]) -> Reply
     requires { replica < T.replicas targets.old }
-    ensures replies { RepliesOrLoses result (Makes T.asks T.inquires) targets.old targets.new (AnswersQueryNow replica key.now) }
+    ensures replies { AsksAll result (Makes T.asks T.inquires) targets.old targets.new (AnswersQueryNow replica key.now) }
     ensures count { T.replicas targets.new ≡ T.replicas targets.old }
 {
     let found = targets.query(replica, key);
@@ -61,7 +62,7 @@ fn query_at<T: HttpTargets>(
     height: Height,
 ) -> Reply
     requires { replica < T.replicas targets.old }
-    ensures replies { RepliesOrLoses result (Makes T.asks T.inquires) targets.old targets.new (AnswersQueryAt replica key.now height) }
+    ensures replies { AsksAll result (Makes T.asks T.inquires) targets.old targets.new (AnswersQueryAt replica key.now height) }
     ensures count { T.replicas targets.new ≡ T.replicas targets.old }
 {
     let committed = targets.height(replica);
@@ -81,7 +82,7 @@ fn query_if<T: HttpTargets>(
     height: Option<Height>,
 ) -> Reply
     requires { replica < T.replicas targets.old }
-    ensures replies { RepliesOrLoses result (Makes T.asks T.inquires) targets.old targets.new (AnswersQueryIf replica key.now height) }
+    ensures replies { AsksAll result (Makes T.asks T.inquires) targets.old targets.new (AnswersQueryIf replica key.now height) }
     ensures count { T.replicas targets.new ≡ T.replicas targets.old }
 {
     match height {
@@ -98,7 +99,7 @@ fn block_at<T: HttpTargets>(
     height: Height,
 ) -> Reply
     requires { replica < T.replicas targets.old }
-    ensures replies { RepliesOrLoses result (Makes T.asks T.inquires) targets.old targets.new (AnswersBlockAt replica height) }
+    ensures replies { AsksAll result (Makes T.asks T.inquires) targets.old targets.new (AnswersBlockAt replica height) }
     ensures count { T.replicas targets.new ≡ T.replicas targets.old }
 {
     let found = targets.block(replica, height);
@@ -108,7 +109,7 @@ fn block_at<T: HttpTargets>(
 /// A replica's block at its committed height.
 fn last_block<T: HttpTargets>(alloc: Global, targets: &mut T, replica: ReplicaId) -> Reply
     requires { replica < T.replicas targets.old }
-    ensures replies { RepliesOrLoses result (Makes T.asks T.inquires) targets.old targets.new (AnswersLastBlock replica) }
+    ensures replies { AsksAll result (Makes T.asks T.inquires) targets.old targets.new (AnswersLastBlock replica) }
     ensures count { T.replicas targets.new ≡ T.replicas targets.old }
 {
     let last = targets.height(replica);
@@ -124,7 +125,7 @@ fn block<T: HttpTargets>(
     height: Option<Height>,
 ) -> Reply
     requires { replica < T.replicas targets.old }
-    ensures replies { RepliesOrLoses result (Makes T.asks T.inquires) targets.old targets.new (AnswersBlockQuestion replica height) }
+    ensures replies { AsksAll result (Makes T.asks T.inquires) targets.old targets.new (AnswersBlockQuestion replica height) }
     ensures count { T.replicas targets.new ≡ T.replicas targets.old }
 {
     match height {
@@ -136,7 +137,7 @@ fn block<T: HttpTargets>(
 /// How many transactions wait in a replica's pool.
 fn pool<T: HttpTargets>(alloc: Global, targets: &mut T, replica: ReplicaId) -> Reply
     requires { replica < T.replicas targets.old }
-    ensures replies { RepliesOrLoses result (Makes T.asks T.inquires) targets.old targets.new (AnswersPool replica) }
+    ensures replies { AsksAll result (Makes T.asks T.inquires) targets.old targets.new (AnswersPool replica) }
     ensures count { T.replicas targets.new ≡ T.replicas targets.old }
 {
     let size = targets.pool(replica);
@@ -146,7 +147,7 @@ fn pool<T: HttpTargets>(alloc: Global, targets: &mut T, replica: ReplicaId) -> R
 /// Submits a transaction to a replica and, if its pool takes it, to the others.
 fn sync<T: HttpTargets>(alloc: Global, targets: &mut T, replica: ReplicaId, tx: &[u8]) -> Reply
     requires { replica < T.replicas targets.old }
-    ensures replies { RepliesOrLoses result (Makes T.asks T.inquires) targets.old targets.new (AnswersSync replica tx.now) }
+    ensures replies { AsksAll result (Makes T.asks T.inquires) targets.old targets.new (AnswersSync replica tx.now) }
     ensures count { T.replicas targets.new ≡ T.replicas targets.old }
 {
     match targets.submit(replica, tx) {
@@ -162,7 +163,7 @@ fn sync<T: HttpTargets>(alloc: Global, targets: &mut T, replica: ReplicaId, tx: 
 /// Submits a transaction to a replica and, if its pool takes it, to the others, and waits for a block that has it.
 fn commit<T: HttpTargets>(alloc: Global, targets: &mut T, replica: ReplicaId, tx: &[u8]) -> Reply
     requires { replica < T.replicas targets.old }
-    ensures replies { RepliesOrLoses result (Makes T.asks T.inquires) targets.old targets.new (AnswersCommit replica tx.now) }
+    ensures replies { AsksAll result (Makes T.asks T.inquires) targets.old targets.new (AnswersCommit replica tx.now) }
     ensures count { T.replicas targets.new ≡ T.replicas targets.old }
 {
     match targets.submit(replica, tx) {
@@ -185,7 +186,7 @@ fn commit<T: HttpTargets>(alloc: Global, targets: &mut T, replica: ReplicaId, tx
 /// The metrics of one replica.
 fn metrics<T: HttpTargets>(alloc: Global, targets: &mut T, replica: ReplicaId) -> Reply
     requires { replica < T.replicas targets.old }
-    ensures replies { RepliesOrLoses result (Makes T.asks T.inquires) targets.old targets.new (AnswersMetrics replica) }
+    ensures replies { AsksAll result (Makes T.asks T.inquires) targets.old targets.new (AnswersMetrics replica) }
     ensures count { T.replicas targets.new ≡ T.replicas targets.old }
 {
     match targets.metrics(replica) {
@@ -239,7 +240,7 @@ fn answer_at<T: HttpTargets>(
     replica: ReplicaId,
 ) -> Reply
     requires { replica < T.replicas targets.old }
-    ensures replies { RepliesOrLoses result (Makes T.asks T.inquires) targets.old targets.new
+    ensures replies { AsksAll result (Makes T.asks T.inquires) targets.old targets.new
         (AnswersAt replica (question_view question.now)) }
     ensures count { T.replicas targets.new ≡ T.replicas targets.old }
 {
@@ -264,7 +265,7 @@ fn answer_if<T: HttpTargets>(
     targets: &mut T,
     replica: ReplicaId,
 ) -> Reply
-    ensures replies { RepliesOrLoses result (Makes T.asks T.inquires) targets.old targets.new
+    ensures replies { AsksAll result (Makes T.asks T.inquires) targets.old targets.new
         (AnswersIf (T.replicas targets.old) replica (question_view question.now)) }
     ensures count { T.replicas targets.new ≡ T.replicas targets.old }
 {
@@ -275,7 +276,22 @@ fn answer_if<T: HttpTargets>(
     }
 }
 
-/// Asks the replica that the request names, else replica 0; for metrics, if the request names none, all.
+/// Asks the first of those replicas that have committed most. Each is asked for its height before.
+fn answer_furthest<T: HttpTargets>(alloc: Global, question: &Question, targets: &mut T) -> Reply
+    ensures replies { AsksAll result (Makes T.asks T.inquires) targets.old targets.new
+        (AnswersFurthest (T.replicas targets.old) (question_view question.now)) }
+    ensures count { T.replicas targets.new ≡ T.replicas targets.old }
+{
+    let count = targets.count().min(MOST_REPLICAS);
+    if count == 0 {
+        return reply_to(alloc, &Answer::Unanswered(ServiceFault::NoReplica));
+    }
+    let replica = furthest(targets, count);
+    answer_at(alloc, question, targets, replica)
+}
+
+/// Asks the replica that the request names. If it names none, asks the first of those that have committed most, all for metrics, and replica 0
+/// for what isn't committed.
 fn answer_question<T: HttpTargets>(
     alloc: Global,
     question: &Question,
@@ -289,15 +305,23 @@ fn answer_question<T: HttpTargets>(
     match (named, question) {
         (Some(replica), question) => answer_if(alloc, question, targets, replica),
         (None, Question::Metrics) => all_metrics(alloc, targets),
+        (
+            None,
+            Question::Status
+            | Question::AbciInfo
+            | Question::AbciQuery { .. }
+            | Question::Block { .. },
+        ) => answer_furthest(alloc, question, targets),
         (None, question) => answer_if(alloc, question, targets, ReplicaId::new(0)),
     }
 }
 
 /// The reply to what was asked, as [`parse`](http_messages::parse) returns it.
 ///
-/// A request asks one replica: the one that it names, else replica 0; metrics, if it names none, of all. If there is no such replica, or
-/// what was asked is a fault, no replica is asked. If the state that a replica's lock guards is another replica's, that is the reply, and
-/// no further replica is asked. The only error is allocation failure: then the reply is
+/// A request asks the replica that it names. If it names none, `Status`, `AbciInfo`, `AbciQuery` and `Block` ask all replicas for their
+/// heights, and then the first of those that have committed most; `Metrics` ask all replicas, and other questions replica 0. If there is no
+/// such replica, or what was asked is a fault, no replica is asked. If the state that a replica's lock guards is another replica's, that is
+/// the reply, and no further replica is asked. The only error is allocation failure: then the reply is
 /// [`out_of_memory_reply`](http_messages::out_of_memory_reply), and either nothing was asked, or all that the request asks was done.
 pub fn answer<T: HttpTargets>(
     alloc: Global,

@@ -7,6 +7,7 @@
 
 mod answering;
 mod answers;
+mod furthest;
 mod hearing;
 mod request_end;
 mod serving;

@@ -34,11 +34,11 @@ pub struct PoolSize {
 /// What became of a transaction that a pool took.
 #[derive(Clone, Copy, Debug, PartialEq, Eq)]
 pub enum Delivery {
-    /// The replica's block at this height has the transaction, for which the application returned this code.
+    /// A replica has run the block at this height, which has the transaction, and the application returned this code for it.
     Committed { height: Height, code: u32 },
-    /// No block of the replica had it in time.
+    /// No block had it in time.
     TimedOut,
-    /// The server was asked to stop before a block of the replica had it.
+    /// The server was asked to stop before a block had it.
     Stopping,
 }
 
@@ -86,9 +86,9 @@ pub trait HttpTargets: Targets {
         ensures asked { inquires self.old (Spreads replica tx.now) self.new }
         ensures count { Self.replicas self.new ≡ Self.replicas self.old };
 
-    /// Waits until a block of a replica has the transaction that its pool took, or until it has waited for too long or is to stop. The
-    /// index is that of the submit's entry in the replica's history. `None` if the state that the replica's lock guards is another
-    /// replica's.
+    /// Waits until some replica has run a block with the transaction that this replica's pool took, or until it has waited for too long or is
+    /// to stop. The index is that of the submit's entry in this replica's history, and the block comes after that entry. `None` if the state
+    /// that this replica's lock guards is another replica's.
     fn wait(&mut self, replica: ReplicaId, tx: &[u8], index: u32) -> Option<Delivery>
         requires { replica < Self.replicas self.old }
         ensures asked { inquires self.old (Waits replica tx.now index result) self.new }

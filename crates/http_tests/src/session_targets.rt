@@ -18,8 +18,8 @@ pub(crate) struct Fake {
     pub(crate) submitted: Submitted,
     /// What becomes of each transaction.
     pub(crate) delivery: Delivery,
-    /// The committed height.
-    pub(crate) height: u32,
+    /// The committed height of each.
+    pub(crate) heights: [u32; 4],
     /// The height of the answer to each query.
     pub(crate) found_height: u32,
     /// The answer to each query and block, if it is a fault.
@@ -36,7 +36,7 @@ impl Fake {
             alloc,
             submitted: Ok(Ok(44)),
             delivery: Delivery::TimedOut,
-            height: 12,
+            heights: [11, 10, 12, 12],
             found_height: 12,
             fault: None,
             stranger: None,
@@ -103,7 +103,7 @@ impl Targets for Fake {
 
     fn height(&mut self, replica: ReplicaId) -> Height {
         self.note(b'H', replica);
-        Height::new(self.height)
+        Height::new(self.heights[usize::from(replica.number())])
     }
 
     fn block(&mut self, replica: ReplicaId, height: Height) -> Result<Option<Batch>, ApplyFault> {

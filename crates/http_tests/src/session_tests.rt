@@ -81,12 +81,13 @@ fn first_wrong<'a>(alloc: Global, targets: &mut Fake, cases: &[Case<'a>]) -> Opt
     None
 }
 
-const QUESTIONS: [Case<'static>; 17] = [
+const QUESTIONS: [Case<'static>; 18] = [
     (b"/health", b"", HEALTH),
     (b"/status?replica=2", b"G2", STATUS),
-    (b"/abci_info", b"I0", INFO),
-    (b"/abci_query?data=\"abcd\"", b"Q0", FOUND),
-    (b"/abci_query?data=\"abcd\"&height=0", b"Q0", FOUND),
+    (b"/status", b"H0H1H2H3G2", STATUS),
+    (b"/abci_info", b"H0H1H2H3I2", INFO),
+    (b"/abci_query?data=\"abcd\"", b"H0H1H2H3Q2", FOUND),
+    (b"/abci_query?data=\"abcd\"&height=0", b"H0H1H2H3Q2", FOUND),
     (
         b"/abci_query?data=\"abcd\"&height=12&replica=3",
         b"H3Q3",
@@ -94,13 +95,13 @@ const QUESTIONS: [Case<'static>; 17] = [
     ),
     (
         b"/abci_query?data=\"abcd\"&height=11",
-        b"H0",
+        b"H0H1H2H3H2",
         NOT_LAST_HEIGHT,
     ),
-    (b"/block?height=1", b"B0", EMPTY_BLOCK),
-    (b"/block?height=4096", b"B0", BLOCK),
-    (b"/block?height=0", b"B0", NOT_COMMITTED),
-    (b"/block", b"H0B0", NOT_COMMITTED),
+    (b"/block?height=1", b"H0H1H2H3B2", EMPTY_BLOCK),
+    (b"/block?height=4096", b"H0H1H2H3B2", BLOCK),
+    (b"/block?height=0", b"H0H1H2H3B2", NOT_COMMITTED),
+    (b"/block", b"H0H1H2H3H2B2", NOT_COMMITTED),
     (b"/num_unconfirmed_txs", b"P0", UNCONFIRMED),
     (
         b"/broadcast_tx_sync?tx=\"name=satoshi\"&replica=3",
@@ -173,7 +174,7 @@ fn a_fault_asks_nothing(rt: HostRuntime) {
 #[test]
 fn the_block_at_the_committed_height_is_the_last(rt: HostRuntime) {
     let mut targets = Fake::new(rt.alloc());
-    targets.height = 4096;
+    targets.heights = [4096; 4];
     assert!(rt;
         is_answer(
             rt.alloc(),
@@ -190,7 +191,15 @@ fn a_query_that_comes_after_the_next_block_is_refused(rt: HostRuntime) {
     let mut targets = Fake::new(rt.alloc());
     targets.found_height = 13;
     let query = b"/abci_query?data=\"abcd\"&height=12";
-    assert!(rt; is_answer(rt.alloc(), &mut targets, query, b"H0Q0", NOT_LAST_HEIGHT));
+    assert!(rt;
+        is_answer(
+            rt.alloc(),
+            &mut targets,
+            query,
+            b"H0H1H2H3H2Q2",
+            NOT_LAST_HEIGHT
+        )
+    );
 }
 
 /// The first of the refusals of a submit that goes wrong: its reply to `broadcast_tx_sync`, and that to `broadcast_tx_commit`.
@@ -269,9 +278,13 @@ fn first_wrong_fault(alloc: Global, targets: &mut Fake) -> Option<&'static str> 
             alloc,
             targets,
             &[
-                (b"/abci_query?data=\"abcd\"", b"Q0", text),
-                (b"/abci_query?data=\"abcd\"&height=12", b"H0Q0", text),
-                (b"/block?height=1", b"B0", text),
+                (b"/abci_query?data=\"abcd\"", b"H0H1H2H3Q2", text),
+                (
+                    b"/abci_query?data=\"abcd\"&height=12&replica=3",
+                    b"H3Q3",
+                    text,
+                ),
+                (b"/block?height=1&replica=0", b"B0", text),
                 (b"/broadcast_tx_sync?tx=\"a\"", b"S0", text),
                 (b"/broadcast_tx_commit?tx=\"a\"", b"S0", text),
             ],
@@ -288,13 +301,15 @@ fn the_fault_of_a_replica_is_a_reply(rt: HostRuntime) {
     assert_eq!(rt; first_wrong_fault(rt.alloc(), &mut targets), None);
 }
 
-/// Questions to replica 2, whose lock guards another's state, and one to all replicas, with the calls that they make.
-const OF_A_STRANGER: [(&str, &str); 6] = [
+/// Questions to replica 2, whose lock guards another's state, one to the replica with the most blocks, and one to all replicas, with the calls
+/// that they make.
+const OF_A_STRANGER: [(&str, &str); 7] = [
     ("/status?replica=2", "G2"),
     ("/abci_info?replica=2", "I2"),
     ("/num_unconfirmed_txs?replica=2", "P2"),
     ("/broadcast_tx_commit?tx=\"a\"&replica=2", "S2A2W2"),
     ("/metrics?replica=2", "M2"),
+    ("/status", "H0H1H2H3G2"),
     ("/metrics", "M0M1M2"),
 ];
 
@@ -371,7 +386,7 @@ fn a_failed_read_asks_nothing_and_writes_nothing(rt: HostRuntime) {
 
 #[test]
 fn a_failed_write_leaves_a_prefix_of_the_reply(rt: HostRuntime) {
-    let head = b"GET /status HTTP/1.1\r\n\r\n";
+    let head = b"GET /num_unconfirmed_txs HTTP/1.1\r\n\r\n";
     assert!(rt; ending(rt.alloc(), head, true, 0) == (End::Write, 0, 2));
     assert!(rt; ending(rt.alloc(), head, false, 40) == (End::Write, 40, 2));
 }

@@ -10,7 +10,7 @@ pub loop-number-preserved : goal.loop-number-preserved
 loop-number-preserved g c =
     let items = c.push_reserved.ensures.items in
     let number = c.in-Some.ensures.replica ∙ c.new.ensures in record {
-      each = ap (map (λ m. m.replica)) items ∙ each_more c.loop-number.all.items c.in-Some.metrics c.loop-number.number
+      each = ap (map (λ m. m.replica)) items ∙ each_more (λ m. m.replica) c.loop-number.all.items c.in-Some.metrics c.loop-number.number
           c.loop-number.invariant.each number;
       made = subst (λ l. FoldsTo (Makes g.T.Targets.asks g.T.HttpTargets.inquires) c.args.targets.now (exchanges_of_metrics l) c.metrics.new.self)
           (sym {A = List ReplicaMetrics} items)

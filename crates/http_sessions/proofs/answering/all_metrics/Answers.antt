@@ -3,14 +3,14 @@ use Rattle.std.specs.List.{range_with_len}
 use Rattle.http_messages.specs.Answers.{Metrics}
 use Rattle.http_sessions.specs.Exchanges.{Inquired, Shows}
 use Rattle.http_sessions.specs.Answering.{exchanges_of_metrics}
-use Rattle.http_sessions.proofs.Replying.{replied}
+use Rattle.http_sessions.proofs.Replying.{replied, replied_or_lost}
 use Rattle.http_sessions.proofs.answering.all_metrics.Goals as goal
 
 pub returns-then-not-add_metrics-clause-replies : goal.returns-then-not-add_metrics-clause-replies
 returns-then-not-add_metrics-clause-replies g c =
     let before = c.add_metrics.new.all.items in
     let met = c.add_metrics.ensures.stranger c.if-not-add_metrics.true in
-    replied _ _ _ _ _ _ (exchanges_of_metrics before ++ Inquired (Shows (length before) None) ∷ []) _ met.1
+    replied_or_lost _ _ _ _ _ _ (replied _ _ _ _ _ _ (exchanges_of_metrics before ++ Inquired (Shows (length before) None) ∷ []) _ met.1
     (inr (record {
       stranger = length before;
       below = subst (λ n. length before < n) (c.min-count.ensures ∙ ap (λ n. min n 256) c.count.ensures) met.0;
@@ -19,13 +19,13 @@ returns-then-not-add_metrics-clause-replies g c =
       asked = refl;
       answer = refl;
     }))
-    c.reply_to.ensures
+    c.reply_to.ensures)
 
 pub returns-clause-replies : goal.returns-clause-replies
 returns-clause-replies g c =
     let all = c.add_metrics.new.all.items in
     let showed = c.add_metrics.ensures.shown c.if-not-add_metrics.false in
-    replied _ _ _ _ _ _ (exchanges_of_metrics all) _ showed.1
+    replied_or_lost _ _ _ _ _ _ (replied _ _ _ _ _ _ (exchanges_of_metrics all) _ showed.1
     (inl (record {
       all = all;
       each = c.add_metrics.ensures.each
@@ -33,4 +33,4 @@ returns-clause-replies g c =
       asked = refl;
       answer = ap Metrics c.deref.ensures.value;
     }))
-    c.reply_to-2.ensures
+    c.reply_to-2.ensures)
