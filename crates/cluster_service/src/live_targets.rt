@@ -81,11 +81,12 @@ impl<A: Application, R: Wait> LiveTargets<'_, A, R> {
 }
 
 impl<A: Application, R: Wait> Targets for LiveTargets<'_, A, R> {
+    ghost use Rattle.std.specs.Prelude.{◌≡◌};
     ghost use Rattle.cluster_service.specs.Targets.{IsExchange};
 
     ghost replicas = { λ t. t.cluster.now.replicas };
 
-    ghost asks = { λ old exchange new. IsExchange A.meaning old.seat.seen exchange new.seat.seen };
+    ghost asks = { λ old exchange new. IsExchange A.meaning old.seat.seen exchange new.seat.seen × (new.cluster.now ≡ old.cluster.now) };
 
     fn count(&self) -> usize {
         self.cluster.len()
@@ -116,9 +117,10 @@ impl<A: Application, R: Wait> Targets for LiveTargets<'_, A, R> {
 }
 
 impl<A: Application, R: Clock + Wait> HttpTargets for LiveTargets<'_, A, R> {
+    ghost use Rattle.std.specs.Prelude.{◌≡◌};
     ghost use Rattle.cluster_service.specs.Inquiries.{IsInquiry};
 
-    ghost inquires = { λ old inquiry new. IsInquiry A.meaning old.cluster.now new.seen inquiry };
+    ghost inquires = { λ old inquiry new. IsInquiry A.meaning old.cluster.now new.seen inquiry × (new.cluster.now ≡ old.cluster.now) };
 
     fn metrics(&mut self, replica: ReplicaId) -> Option<ReplicaMetrics> {
         let cluster = self.cluster;

@@ -132,3 +132,8 @@ not_alone program meaning given words f right other enough alone = neither (answ
     neither : AsksForText f ⊎ WantsMemory f → ⊥
     neither (inl asks) = other asks
     neither (inr wants) = enough wants
+
+-- an error of one of no kinds is that memory ran out
+pub none_is_memory : (ks : Kinds) (error : Error) → ks ≡ [] → HasKind ks error → kind_of error ≡ kind.OutOfMemory
+none_is_memory ks error none (inl memory) = memory
+none_is_memory ks error none (inr among) = absurd (subst (IsAmong (kind_of error)) none among)

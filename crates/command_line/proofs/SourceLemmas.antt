@@ -329,7 +329,7 @@ sets_so program meaning words o seed s taken found sets =
 pub none_again : (program : ProgramWords) (meaning : Meanings) (words : List Text) (o : Option (Text × List Row)) (seed : List ℕ) (e : UsageFault)
     → o ≡ subcommand_of (abft_app program) words → first_of (codes "cluster") (rows_in o) ≡ None
     → ((s : Settings) → Sets program.kinds meaning (seed_alone (Some seed)) o s → WantsMemory e)
-    → takes (abft_app program) words ≡ true
+    → kinds_of program words ≡ []
     → (given : GivenKeys) (s : Settings) → IsSet program meaning given words s → WantsMemory e
 none_again program meaning words o seed e found none refused taken given s sets =
     let again = sets_again program.kinds meaning given (subcommand_of (abft_app program) words) s seed

@@ -39,7 +39,7 @@ SetsWithSeed program meaning words =
 
 -- what is given changes nothing: what the words set with it they set without
 abbrev pub KeepsSettings : ProgramWords → Meanings → List Text → Type 0
-KeepsSettings program meaning words = takes (abft_app program) words ≡ true → (given : GivenKeys) (s : Settings)
+KeepsSettings program meaning words = kinds_of program words ≡ [] → (given : GivenKeys) (s : Settings)
     → IsSet program meaning given words s
     → IsSet program meaning (seed_alone None) words s
 

@@ -1,8 +1,8 @@
 //! Where the keys of a cluster come from, if the words don't have their seed: who calls `settings` finds them there.
-ghost use Rattle.std.specs.Prelude.{◌≡◌, ◌↔◌, IsTrue, IfOk, IfErr, true, map};
-ghost use Rattle.clap.specs.Words.{found_of, rows_of, subcommand_rows_of, takes};
+ghost use Rattle.std.specs.Prelude.{◌≡◌, ◌↔◌, IsTrue, IfOk, IfErr, [], map};
+ghost use Rattle.clap.specs.Words.{found_of, rows_of, subcommand_rows_of};
 ghost use Rattle.cluster_setup.specs.declared.settings.Settings.{Settings};
-ghost use Rattle.command_line.specs.Grammar.{abft_app};
+ghost use Rattle.command_line.specs.Faults.{kinds_of};
 ghost use Rattle.command_line.specs.Options.{AsksForRandom, IsSet, WantsMemory, options_of};
 ghost use Rattle.command_line.specs.KeySources.{IsSource, IsSourceIn, IsSourceOf, NamesNoKeys};
 ghost use Rattle.command_line.specs.declared.given_keys.GivenKeys.{GivenKeys};
@@ -96,7 +96,7 @@ fn source_of_words<'a, A: Opening>(
     words: &'a [&'a str],
 ) -> Result<KeySource<'a>, UsageFault<'a>>
     ensures source { IfOk result (IsSourceOf A.words A.meaning (map (λ w. w.now) words.entry.now)) }
-    ensures refused { IfErr result (λ e. takes (abft_app A.words) (map (λ w. w.now) words.entry.now) ≡ true
+    ensures refused { IfErr result (λ e. kinds_of A.words (map (λ w. w.now) words.entry.now) ≡ []
         → (given : GivenKeys) (s : Settings) → IsSet A.words A.meaning given (map (λ w. w.now) words.entry.now) s → WantsMemory e) }
 {
     let matches = matches_of::<A>(alloc, words)?;

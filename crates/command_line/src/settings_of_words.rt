@@ -218,6 +218,7 @@ pub(crate) fn matches_of<'a, A: Opening>(
 ) -> Result<ArgMatches<'a>, UsageFault<'a>>
     ensures found { IfOk result (λ m. subcommand_rows_of m ≡ subcommand_of (abft_app A.words) (map (λ w. w.now) words.entry.now)) }
     ensures refused { IfErr result (λ e. takes (abft_app A.words) (map (λ w. w.now) words.entry.now) ≡ true → WantsMemory e) }
+    ensures kinds { IfErr result (λ e. kinds_of A.words (map (λ w. w.now) words.entry.now) ≡ [] → WantsMemory e) }
     ensures taken { IfOk result (λ _. kinds_of A.words (map (λ w. w.now) words.entry.now) ≡ []) }
     ensures right { (meaning : Meanings) (given : Option (List ℕ)) → IfErr result (IsRightFault A.words meaning given (map (λ w. w.now) words.entry.now)) }
 {

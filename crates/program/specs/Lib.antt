@@ -7,5 +7,6 @@ pub mod HistoryInput
 pub mod Auditing
 pub mod Drawing
 pub mod Publishing
+pub mod Laws
 pub mod Doing
 pub mod Statements

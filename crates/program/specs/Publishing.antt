@@ -5,11 +5,12 @@ use Rattle.byte_streams.specs.Writing.{AppendsSome}
 use Rattle.cluster_setup.specs.KnownClusters.{IsPublicOf}
 use Rattle.cluster_setup.specs.declared.cluster_seed.ClusterSeed.{ClusterSeed}
 use Rattle.cluster_setup.specs.declared.public_cluster.PublicCluster.{PublicCluster}
+use Rattle.cluster_files.specs.Descriptions.{Describes}
 use Rattle.cluster_files.specs.FileTexts.{cluster_text}
 
--- the text is the public file of the cluster with this seed
+-- the text is the public file of the cluster with this seed, in the spelling that is written; read as such a file, it is that cluster's
 abbrev pub IsFileOf : ClusterSeed → List ℕ → Type 0
-IsFileOf cluster text = (public : PublicCluster) × (IsPublicOf cluster public × (text ≡ cluster_text public))
+IsFileOf cluster text = (public : PublicCluster) × (IsPublicOf cluster public × (text ≡ cluster_text public) × Describes text public)
 
 -- the program reads nothing, and prints the public file
 abbrev pub PrintsFile : ClusterSeed → List ℕ → List ℕ → Type 0

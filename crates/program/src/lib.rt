@@ -9,6 +9,7 @@ mod delivering;
 mod drawing;
 mod frame_stream;
 mod history_input;
+pub mod laws;
 mod line;
 mod line_printing;
 mod opening;

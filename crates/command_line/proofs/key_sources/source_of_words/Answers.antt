@@ -1,9 +1,9 @@
-use Rattle.std.proofs.Common.{◌≡◌, codes, map, true, subst}
+use Rattle.std.proofs.Common.{◌≡◌, codes, map, [], subst}
 use Rattle.std.specs.Prelude.{None}
 use Rattle.clap.proofs.TakesLemmas.{passed_up}
-use Rattle.clap.specs.Words.{first_of, subcommand_rows_of, takes}
+use Rattle.clap.specs.Words.{first_of, subcommand_rows_of}
 use Rattle.cluster_setup.specs.declared.settings.Settings.{Settings}
-use Rattle.command_line.specs.Grammar.{abft_app}
+use Rattle.command_line.specs.Faults.{kinds_of}
 use Rattle.command_line.specs.Options.{IsSet, WantsMemory}
 use Rattle.command_line.specs.KeySources.{IsSourceIn}
 use Rattle.command_line.specs.declared.given_keys.GivenKeys.{GivenKeys}
@@ -13,7 +13,7 @@ use Rattle.command_line.proofs.key_sources.source_of_words.Goals as goal
 pub returns-in_err-_settings-clause-refused : goal.returns-in_err-_settings-clause-refused
 returns-in_err-_settings-clause-refused g c =
     passed_up _ c.in_err-_settings.field-0.0
-    (λ e. takes (abft_app (g.A.Opening.words)) (map (λ w. w.now) c.args.words.now) ≡ true
+    (λ e. kinds_of (g.A.Opening.words) (map (λ w. w.now) c.args.words.now) ≡ []
     → (given : GivenKeys) (s : Settings) → IsSet (g.A.Opening.words) (g.A.Application.meaning) given (map (λ w. w.now) c.args.words.now) s
     → WantsMemory e)
     c.from_residual-in_err-_settings.ensures.1

@@ -5,7 +5,7 @@ use Rattle.clap.specs.declared.error.ErrorKind.TheVariants as kind
 use Rattle.command_line.specs.Faults.{NamesInput, kinds_of}
 use Rattle.command_line.specs.declared.usage_fault.UsageFault.TheVariants as fault
 use Rattle.command_line.specs.Options.{WantsMemory}
-use Rattle.command_line.proofs.FaultLemmas.{abft_is_free, refused_right}
+use Rattle.command_line.proofs.FaultLemmas.{abft_is_free, none_is_memory, refused_right}
 use Rattle.command_line.proofs.MatchesLemmas.{rows_are}
 use Rattle.command_line.proofs.settings_of_words.matches_of.Goals as goal
 
@@ -35,3 +35,12 @@ returns-in-Err-clause-right g c =
     (subst (λ name. (c.fault_of.result ≡ fault.CommandLine c.in-Err.error)
     ⊎ ((kind_of c.in-Err.error ≡ kind.UnknownArgument) × NamesInput name (map (λ w. w.now) c.args.words.now) c.fault_of.result))
     c.name.ensures c.fault_of.ensures.named)
+
+pub returns-in-Err-clause-kinds : goal.returns-in-Err-clause-kinds
+unfolding kinds_of
+returns-in-Err-clause-kinds g c = λ none.
+    let memory : kind_of c.in-Err.error ≡ kind.OutOfMemory =
+    none_is_memory (kinds_of (g.A.Opening.words) (map (λ w. w.now) c.args.words.now)) c.in-Err.error none
+    (subst (λ a. HasKind (fault_of a (map (λ w. w.now) c.args.words.now)) c.in-Err.error) c.in_ok-command.ensures
+    (c.in-Err.ensures.kinds (ap is_simple_and_free c.in_ok-command.ensures ∙ abft_is_free (g.A.Opening.words)))) in
+    subst WantsMemory (sym (c.fault_of.ensures.kept (λ unknown. let bad = sym memory ∙ unknown in absurd cc))) memory
