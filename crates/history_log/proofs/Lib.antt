@@ -1,0 +1,3 @@
+pub mod RecordParts
+pub mod TagPlaces
+pub mod LawProofs

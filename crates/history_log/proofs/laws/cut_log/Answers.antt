@@ -1,0 +1,5 @@
+use Rattle.history_log.proofs.LawProofs as law
+use Rattle.history_log.proofs.laws.cut_log.Goals as goal
+
+pub returns : goal.returns
+returns c = law.cut_records
