@@ -1,9 +1,9 @@
 -- What stops leave of a run is a run.
 use Rattle.ledger_model.specs.Meanings.{Meanings}
-use Rattle.std.proofs.Common.{◌≡◌, ℕ, zero, suc, true, false, cond, inl, inr, List, [], ◌∷◌, ◌++◌, refl, sym, ap, subst, ◌∙◌, append_assoc}
+use Rattle.std.proofs.Common.{arith, take, length, ◌≤◌, ◌≡◌, ℕ, zero, suc, true, false, cond, inl, inr, List, [], ◌∷◌, ◌++◌, refl, sym, ap, subst, ◌∙◌, append_assoc}
 use Rattle.std.specs.Prelude.{nat_eq}
 use Rattle.std.proofs.lemmas.Bool.{cases_Bool, eqb-true}
-use Rattle.std.proofs.lemmas.List.{append-nil}
+use Rattle.std.proofs.lemmas.List.{length-append, take-append-le, take-take, length-take, append-nil}
 use Rattle.ledger_model.specs.declared.config.Config.{Config}
 use Rattle.ledger_model.specs.Rules.{Ring}
 use Rattle.ledger_model.specs.Lawful.{Lawful}
@@ -108,3 +108,88 @@ module _ (meaning : Meanings) (config : Config) (ring : Ring) (correct : List �
       → RunsFrom meaning config ring correct [] timeline
   unfolding RunsFrom
   runs_from_start steps timeline runs = runs_left no_logs [] steps timeline tt runs
+
+-- the entries of the other replicas stay
+pub kept_others : (r kept : ℕ) (t : List Added) (x : ℕ) → nat_eq x r ≡ false → entries_at (kept_of r kept t) x ≡ entries_at t x
+unfolding kept_of
+kept_others r zero [] x other = refl
+kept_others r (suc kept) [] x other = refl
+kept_others r zero (a ∷ t) x other =
+    elim (cases_Bool (nat_eq a.replica r)) [
+      | inl is ↦ simp (is, others_differ a.replica r x is other) (kept_others r zero t x other)
+      | inr differs ↦ simp differs (ap (λ es. cond (nat_eq a.replica x) (a.entry ∷ []) [] ++ es) (kept_others r zero t x other))
+    ]
+kept_others r (suc kept) (a ∷ t) x other =
+    ap (λ es. cond (nat_eq a.replica x) (a.entry ∷ []) [] ++ es) (kept_others r (cond (nat_eq a.replica r) kept (suc kept)) t x other)
+
+-- replica r has its first entries
+pub kept_own : (r kept : ℕ) (t : List Added) → entries_at (kept_of r kept t) r ≡ take kept (entries_at t r)
+unfolding kept_of
+kept_own r zero [] = refl
+kept_own r (suc kept) [] = refl
+kept_own r zero (a ∷ t) =
+    elim (cases_Bool (nat_eq a.replica r)) [
+      | inl is ↦ simp is (kept_own r zero t)
+      | inr differs ↦ simp differs (kept_own r zero t)
+    ]
+kept_own r (suc kept) (a ∷ t) =
+    elim (cases_Bool (nat_eq a.replica r)) [
+      | inl is ↦ simp is (ap (λ es. a.entry ∷ es) (kept_own r kept t))
+      | inr differs ↦ simp differs (kept_own r (suc kept) t)
+    ]
+
+-- the log of each replica is no longer than its history
+abbrev Within : (ℕ → ℕ) → List Added → Type 0
+Within logged now = (x : ℕ) → logged x ≤ length (entries_at now x)
+
+module _ (meaning : Meanings) (config : Config) (ring : Ring) (correct : List ℕ) where
+  -- what the logs have now is in the histories in the end
+  pub stays : (logged : ℕ → ℕ) (now : List Added) (steps : List LoggedStep) (timeline : List Added) → Within logged now
+      → RunsWithRestarts meaning config ring correct logged now steps timeline
+      → (x : ℕ) → take (logged x) (entries_at timeline x) ≡ take (logged x) (entries_at now x)
+  unfolding RunsWithRestarts
+  stays logged now [] timeline within is x = ap (λ t. take (logged x) (entries_at t x)) is
+  stays logged now (Adds a ∷ steps) timeline within next x =
+      stays logged (now ++ a ∷ []) steps timeline
+      (λ y. omega (arith, ap length (entries_at-append now (a ∷ []) y), length-append (entries_at now y) (entries_at (a ∷ []) y), within y)) (next.2) x
+      ∙ ap (take (logged x)) (entries_at-append now (a ∷ []) x) ∙ take-append-le (logged x) (entries_at now x) (entries_at (a ∷ []) x) (within x)
+  stays logged now (Logs r count ∷ steps) timeline within next x =
+      let le = grows logged r count (next.0) x in
+      sym (take-take (logged x) (with_log logged r count x) (entries_at timeline x) le)
+      ∙ ap (take (logged x)) (stays (with_log logged r count) now steps timeline (inside logged now r count within (next.1)) (next.2) x)
+      ∙ take-take (logged x) (with_log logged r count x) (entries_at now x) le
+    where
+      grows : (logged : ℕ → ℕ) (r count : ℕ) → logged r ≤ count → (x : ℕ) → logged x ≤ with_log logged r count x
+      grows logged r count le x =
+          elim (cases_Bool (nat_eq x r)) [
+            | inl is ↦ simp is (subst (λ y. logged y ≤ count) (sym (eqb-true x r is)) le)
+            | inr other ↦ simp other (omega arith)
+          ]
+
+      inside : (logged : ℕ → ℕ) (now : List Added) (r count : ℕ) → Within logged now → count ≤ length (entries_at now r) → Within (with_log logged r count) now
+      inside logged now r count within le x =
+          elim (cases_Bool (nat_eq x r)) [
+            | inl is ↦ simp is (subst (λ y. count ≤ length (entries_at now y)) (sym (eqb-true x r is)) le)
+            | inr other ↦ simp other (within x)
+          ]
+  stays logged now (Restarts r kept ∷ steps) timeline within next x =
+      stays logged (kept_of r kept now) steps timeline (within_kept logged now r kept within (next.0)) (next.1) x ∙ same logged now r kept (next.0) x
+    where
+      same : (logged : ℕ → ℕ) (now : List Added) (r kept : ℕ) → logged r ≤ kept → (x : ℕ)
+          → take (logged x) (entries_at (kept_of r kept now) x) ≡ take (logged x) (entries_at now x)
+      same logged now r kept le x =
+          elim (cases_Bool (nat_eq x r)) [
+            | inl is ↦ let one : x ≡ r = eqb-true x r is in
+                subst (λ y. take (logged y) (entries_at (kept_of r kept now) y) ≡ take (logged y) (entries_at now y)) (sym one)
+                (ap (take (logged r)) (kept_own r kept now) ∙ take-take (logged r) kept (entries_at now r) le)
+            | inr other ↦ ap (take (logged x)) (kept_others r kept now x other)
+          ]
+
+      within_kept : (logged : ℕ → ℕ) (now : List Added) (r kept : ℕ) → Within logged now → logged r ≤ kept → Within logged (kept_of r kept now)
+      within_kept logged now r kept within le x =
+          elim (cases_Bool (nat_eq x r)) [
+            | inl is ↦ let one : x ≡ r = eqb-true x r is in
+                subst (λ y. logged y ≤ length (entries_at (kept_of r kept now) y)) (sym one)
+                (omega (arith, ap length (kept_own r kept now), length-take kept (entries_at now r), within r, le))
+            | inr other ↦ subst (λ es. logged x ≤ length es) (sym (kept_others r kept now x other)) (within x)
+          ]

@@ -44,8 +44,9 @@ RunsWithRestarts meaning config ring correct logged now (Logs r count ∷ steps)
 RunsWithRestarts meaning config ring correct logged now (Restarts r kept ∷ steps) timeline =
     (logged r ≤ kept) × RunsWithRestarts meaning config ring correct logged (kept_of r kept now) steps timeline
 
--- What a correct replica accepts of a correct one is in that one's log by then. So nothing is forged, and no replica sends what an entry says
--- before its log has the entry.
+-- What a correct replica accepts of a correct one is in that one's log by then. That holds if nothing is forged, and each replica logs an entry
+-- before it sends what the entry says. (A replica whose leaves may have signed more than its log has must not use them again: else
+-- signatures can be forged.)
 unfoldable pub AcceptsLogged : Config → Ring → List ℕ → (ℕ → ℕ) → List Added → List LoggedStep → Type 0
 AcceptsLogged config ring correct logged now [] = Unit {0}
 AcceptsLogged config ring correct logged now (Adds a ∷ steps) =
@@ -58,7 +59,7 @@ AcceptsLogged config ring correct logged now (Restarts r kept ∷ steps) = Accep
 abbrev pub no_logs : ℕ → ℕ
 no_logs r = 0
 
--- what the replicas have in the end is a run in which none stops
+-- What the replicas have in the end is a run in which none stops. What a client was told of entries that no log had may be missing in it.
 abbrev pub RestartsAreInvisible : Type 0
 RestartsAreInvisible =
     (meaning : Meanings) (config : Config) (ring : Ring) (correct : List ℕ) (steps : List LoggedStep) (timeline : List Added)
@@ -70,3 +71,12 @@ RestartsRefine =
     (meaning : Meanings) (config : Config) (ring : Ring) (correct : List ℕ) (steps : List LoggedStep) (timeline : List Added)
     → AreReplicas config correct → RunsWithRestarts meaning config ring correct no_logs [] steps timeline
     → AcceptsLogged config ring correct no_logs [] steps → RefinesLedger meaning config correct timeline
+
+-- what the logs have at some moment is in the histories in the end, whichever replicas stop meanwhile: so is what a replica tells its clients of
+-- logged entries alone
+abbrev pub LoggedEntriesStay : Type 0
+LoggedEntriesStay =
+    (meaning : Meanings) (config : Config) (ring : Ring) (correct : List ℕ) (logged : ℕ → ℕ) (now : List Added) (steps : List LoggedStep)
+    (timeline : List Added) → ((x : ℕ) → logged x ≤ length (entries_at now x))
+    → RunsWithRestarts meaning config ring correct logged now steps timeline
+    → (x : ℕ) → take (logged x) (entries_at timeline x) ≡ take (logged x) (entries_at now x)
