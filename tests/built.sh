@@ -6,7 +6,7 @@ cd "$(dirname "$0")/.." || exit 1
 export ABFT=$PWD/crates/abft/out/abft NOTARY=$PWD/crates/notary/out/notary LMS_SPEED=$PWD/crates/lms_speed/out/lms_speed
 room=$(mktemp -d)
 trap 'rm -rf "$room"' EXIT
-scripts=(avx2 end_to_end scenarios audits public_files pictures hostile http notary readme benchmark documents dependencies names mutants)
+scripts=(avx2 end_to_end scenarios audits public_files pictures hostile http notary readme tutorial benchmark documents dependencies names mutants)
 for script in "${scripts[@]}"; do
     "tests/$script.sh" >"$room/$script" 2>&1 && : >"$room/$script.well" &
 done

@@ -55,7 +55,7 @@ counts() {
 }
 
 [ "${1:-}" != --write ] || write=yes
-for scenario in plain-run two-locks two-proposals four-proposals retired-height; do
+for scenario in plain-run two-locks two-proposals four-proposals retired-height lying-owner; do
     picture "$scenario"
 done
 counts 'each replica decides once' 4 '<title>height 1 decided: \[a=1\] '
