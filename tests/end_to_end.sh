@@ -44,7 +44,7 @@ for key in line digits bytes; do
     signs "a frame under the seed of a file: $key" a04eda7e31c29f1f518583b0b724a00ab835f49d22c12e515e9e93130b076e18 \
         report --replica 2 --value b=7 --height 4096 --phase 1000000000 --w 8 --seed-file "'$room/key-$key'"
 done
-faults 'a seed that others may read' 0 "warning: other users may read the seed in the file $room/key-shared"$'\n' \
+faults 'a seed that others may read or change' 0 "warning: the mode of the file $room/key-shared lets other users read or change the seed"$'\n' \
     "'$abft' deliver --seed-file '$room/key-shared' </dev/null"
 faults 'a seed file that is absent' 3 "error: can't read the file $room/none: No such file or directory (os error 2)"$'\n' \
     "'$abft' sign report --seed-file '$room/none'"
@@ -260,8 +260,8 @@ refuses "error: unexpected argument '--port' found
 Usage: abft cluster [OPTIONS]
 
 For more information, try '--help'." cluster --port 1
-refuses "error: --log is off, warn, info or debug, not 'loud'" cluster --log loud
-refuses "error: --log is off, warn, info or debug, not ''" serve --quiet --log=
+refuses "error: --log is off, error, warn, info, debug or trace, not 'loud'" cluster --log loud
+refuses "error: --log is off, error, warn, info, debug or trace, not ''" serve --quiet --log=
 refuses "error: unexpected value '1' for '--quiet' found; no more were expected
 
 Usage: abft cluster --quiet
@@ -439,7 +439,7 @@ Lines, of replica R at height H; docs/SCENARIOS.md has all of them:
   deliver R ignored N CAUSE    R ignored a frame: the cause's number and name
   execute R H BATCH codes C,D  R ran a block, with a code for each transaction; or 'execute R nothing'
   query R H VALUE              what R holds under the key; or 'query R H absent'
-  retire R H ok                R gave up the heights below H; or 'retire R H refused K'
+  retire R H ok                R retired the heights below H; or 'retire R H refused K'
   info R H HASH                the height and the hash of R's application
   refused K                    the step was refused, for reason K
   lie-lock cannot              too few reports for that lock's proof; or 'lie-stale cannot'
@@ -462,7 +462,7 @@ cat >"$room/running" <<'EOT'
       --log <log>              What standard error shows, in letters of any case: off, error, warn, info, debug or trace [default: info]
       --quiet                  The same as --log off
       --stop-at-eof            Stops the cluster, and its listener, when standard input ends
-      --no-empty-blocks        Opens a height only for a transaction that waits, or once another replica has opened it
+      --no-empty-blocks        Opens a height only if a transaction waits for it, or a frame about it
       --steady                 Lets rounds last as at the start again, each time that all replicas have run another block
 EOT
 {
@@ -556,7 +556,7 @@ Options:
 EOT
     cat "$room/common" "$room/seed"
     cat <<'EOT'
-      --cluster <cluster>      The public file of the cluster, as 'keys' prints it, in place of all options before this one
+      --cluster <cluster>      The public file of the cluster, as 'keys' prints it, in place of --n, --t, --kind, --w, --tree, --frames and the seed
       --receipt <receipt>      A receipt to look for, R:I:TX: the replica, the index in its history, and the transaction
   -h, --help                   Print help
 
@@ -597,7 +597,7 @@ Options:
 EOT
     cat "$room/common" "$room/seed"
     cat <<'EOT'
-      --cluster <cluster>      The public file of the cluster, as 'keys' prints it, in place of all options before this one
+      --cluster <cluster>      The public file of the cluster, as 'keys' prints it, in place of --n, --t, --kind, --w, --tree, --frames and the seed
       --height <height>        The one height to draw, 1 to 4096; 0 for all heights [default: 0]
       --first <first>          The first round to draw, 0 to 4000000000; 0 is the time before round 1 [default: 0]
       --last <last>            The last round to draw, 0 to 4000000000 [default: 64]

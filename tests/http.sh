@@ -35,8 +35,8 @@ satoshi=57D835FBBA0DBF922D8A2EDA56922C9B24E7760927F245A7684A736C4769DB8A
 starts --histories "$room/histories"
 
 # The tutorial of CometBFT's key-value store.
-runs 'a transaction is committed' 0 "0 0 $satoshi 0"$'\n' \
-    "$ask fields '/broadcast_tx_commit?tx=\"name=satoshi\"' check_tx.code deliver_tx.code hash abft.replica"
+runs 'a transaction is committed' 0 "0 0 $satoshi"$'\n' \
+    "$ask fields '/broadcast_tx_commit?tx=\"name=satoshi\"' check_tx.code deliver_tx.code hash"
 runs 'by curl, as the tutorial writes it' 0 $'{"check_tx":{"code":0,' \
     "curl -s '$at/broadcast_tx_commit?tx=\"abcd\"' | grep -o '{\"check_tx\":{\"code\":0,' | tr -d '\\n'"
 again="$ask fields '/broadcast_tx_commit?tx=\"again=1\"' height"
@@ -125,4 +125,9 @@ runs 'a port that is taken' 0 $'3 \n' "python3 -c 'if 1:
     taken = socket.create_server((\"127.0.0.1\", 0))
     done = subprocess.run([sys.argv[1], \"serve\", \"--http\", str(taken.getsockname()[1])], capture_output=True, text=True)
     print(done.returncode, done.stdout)' '$abft'"
+# The same bytes, by a server whose rounds stay short.
+rm "$room/input"
+starts --steady
+runs 'the same bytes again and again, as soon as a pool takes them' 0 $'each in a later block\n' "timeout 120 $ask again 8"
+ends
 finish

@@ -9,6 +9,7 @@
     settle                 waits until replica 0 has run what the replica with the most blocks has
     own COUNT              how many commits, one after another, are seen by the query that follows each at once; and whether replica 0 had
                            not yet run the block after some
+    again COUNT            whether the same bytes, sent again and again as soon as a pool takes them, are each time in a later block
     bytes HEX              the first line of the reply to these bytes, after which the client closes its side
     crowd COUNT            how many clients that send nothing are open while another is answered
     cut                    how long a client is read that sends a head byte by byte, and never its end
@@ -162,10 +163,10 @@ def height_of(path):
     return int(result_of(path)["sync_info"]["latest_block_height"])
 
 
-def settle():
+def settle(replica=0):
     wanted, end = height_of("/status"), time.monotonic() + 60
-    while height_of("/status?replica=0") < wanted:
-        assert time.monotonic() < end, f"replica 0 doesn't run block {wanted}"
+    while height_of(f"/status?replica={replica}") < wanted:
+        assert time.monotonic() < end, f"replica {replica} doesn't run block {wanted}"
         time.sleep(0.02)
 
 
@@ -177,6 +178,23 @@ def own(count):
         seen += found["value"] is not None and base64.b64decode(found["value"]) == str(number).encode() and int(found["height"]) >= height
         behind += height_of("/status?replica=0") < height
     print(f"{seen} seen;", "replica 0 was behind after some" if behind else "replica 0 was never behind")
+
+
+def again(count):
+    """The same bytes, one commit after the other, at the replica that the server chooses. A pool that still has the former copy refuses the next
+    one, which is then sent once more. In the end no pool has a copy that no block will have."""
+    heights = []
+    for _ in range(int(count)):
+        reply = {}
+        while "result" not in reply:
+            time.sleep(0.05)
+            _, _, body = get('/broadcast_tx_commit?tx="same=1"')
+            reply = json.loads(body)
+        heights.append(int(reply["result"]["height"]))
+    for number in range(4):
+        settle(number)
+    left = [result_of(f"/num_unconfirmed_txs?replica={number}")["n_txs"] for number in range(4)]
+    print("each in a later block" if heights == sorted(set(heights)) and left == ["0"] * 4 else (heights, left))
 
 
 def crowd(count):

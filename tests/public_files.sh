@@ -68,8 +68,8 @@ refuses 'bytes that are no text' 2 "error: the file $room/bytes.toml is no publi
 refuses 'a file that is too long' 2 "error: the file $room/long.toml is no public file of a cluster: it has more than 65536 bytes" "'$abft' audit --cluster '$room/long.toml' </dev/null"
 
 # Words that contradict each other.
-refuses 'a size beside the file' 2 'error: --tree is not taken beside --cluster, whose file says it' "'$abft' audit --tree 5 --cluster '$room/own.toml' </dev/null"
-refuses 'a seed beside the file' 2 'error: --seed-file is not taken beside --cluster, whose file says it' "'$abft' draw --seed-file x --cluster '$room/other.toml' </dev/null"
+refuses 'a size beside the file' 2 'error: --tree is not taken beside --cluster, whose file stands for it' "'$abft' audit --tree 5 --cluster '$room/own.toml' </dev/null"
+refuses 'a seed beside the file' 2 'error: --seed-file is not taken beside --cluster, whose file stands for it' "'$abft' draw --seed-file x --cluster '$room/other.toml' </dev/null"
 lost='error: --seed random and --write-seed go together: the new seed is kept in that file, or nowhere'
 refuses 'a random seed that no file keeps' 2 "$lost" "'$abft' keys --seed random"
 refuses 'a file for a seed that is not new' 2 "$lost" "'$abft' keys --write-seed '$room/third'"

@@ -1,6 +1,6 @@
 -- What is answered to HTTP alone: the state that was seen under the replica's lock is that replica's, and the answer follows from it.
 use Rattle.ledger_model.specs.Meanings.{Meanings}
-use Rattle.std.specs.Prelude.{◌≡◌, ◌⊎◌, ℕ, ◌<◌, ◌+◌, ◌^◌, ◌-◌, ⊤, List, drop, length, min, sum_by, Option, Some, None, slice_get}
+use Rattle.std.specs.Prelude.{◌≡◌, ◌⊎◌, ℕ, ◌<◌, ◌+◌, ◌^◌, ◌-◌, ⊤, List, drop, length, min, sum_by, true, Option, Some, None, slice_get}
 use Rattle.http_messages.specs.FrameCounts.{ignored_for}
 use Rattle.http_messages.specs.declared.metrics.ReplicaMetrics.{ReplicaMetrics}
 use Rattle.http_sessions.specs.declared.targets.AppInfo.{AppInfo}
@@ -10,6 +10,7 @@ use Rattle.http_sessions.specs.declared.targets.PoolSize.{PoolSize}
 use Rattle.http_sessions.specs.declared.targets.Progress.{Progress}
 use Rattle.http_sessions.specs.Exchanges.{Inquiry, Shows, Progresses, Pools, Infos, Spreads, Waits}
 use Rattle.key_ring.specs.Signers.{public_key_of, leaves_of}
+use Rattle.ledger_model.specs.Audits.{is_taken}
 use Rattle.ledger_model.specs.Commits.{commits_of, pool_of}
 use Rattle.ledger_model.specs.Lawful.{Replay, clock_at}
 use Rattle.ledger_model.specs.declared.reply.Ignored.{Ignored}
@@ -73,10 +74,10 @@ abbrev pub SeesStranger : RunningClusterView → ℕ → Option StateView → Ty
 SeesStranger cluster r (Some state) = IsStateOf cluster r state → ⊥
 SeesStranger cluster r None = ⊥
 
--- the state, whose history is lawful and has the entry with this index, has no block with the transaction from that entry on, and no block at
--- this height or above
+-- the state, whose history is lawful, took the transaction into its pool by the entry with this index, and has no block with the transaction
+-- from that entry on, and no block at this height or above
 pub record IsPendingBelow (meaning : Meanings) (tx : List ℕ) (index height : ℕ) (state : StateView) : Type 0 where
-  pub submitted : index < length state.entries
+  pub taken : is_taken tx (slice_get state.entries index) ≡ true
   pub undelivered : IsUndelivered meaning tx index state
   pub below : length (commits_of state.config state.id state.entries) < height
 

@@ -8,8 +8,8 @@ use Rattle.cluster_service.specs.Inquiries.{IsPendingBelow, IsUndelivered, SeenV
 use Rattle.cluster_service.specs.declared.waiting.LookOutcome.{LookOutcome}
 use Rattle.cluster_service.specs.declared.waiting.LookOutcome.TheVariants as look
 
--- the state of replica `r`, which was seen, has the entry with this index, no block with the transaction from there on, and none above this
--- height
+-- the state of replica `r`, which was seen, took the transaction by the entry with this index, and has no block with it from there on, and none
+-- above this height
 abbrev pub IsPendingAbove : Meanings → RunningClusterView → ℕ → Option StateView → List ℕ → ℕ → ℕ → Type 0
 IsPendingAbove meaning cluster r taker tx index above =
     (height : ℕ) → above < height → height < 2 ^ 32 → SeesOwn cluster r taker (IsPendingBelow meaning tx index height)

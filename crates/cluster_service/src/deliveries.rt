@@ -78,7 +78,11 @@ pub(crate) fn delivered_after<A: Application>(
 }
 
 /// The least height above this one at which the replica's block has the transaction.
-fn height_above<A: Application>(state: &State<A>, above: u32, tx: &[u8]) -> Option<Height>
+pub(crate) fn height_above<A: Application>(
+    state: &State<A>,
+    above: u32,
+    tx: &[u8],
+) -> Option<Height>
     ensures { IfSome result (λ height. above < height) }
 {
     for number in above..state.height() {

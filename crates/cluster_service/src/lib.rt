@@ -17,6 +17,7 @@
 
 mod asking;
 mod budgets;
+mod client_access;
 mod deliveries;
 mod door;
 mod final_histories;

@@ -1,9 +1,9 @@
 //! The replicas of a running cluster, as targets of a session, and of a request of HTTP.
 ghost use Rattle.std.specs.Prelude.{◌≡◌, ◌<◌, length};
-ghost use Rattle.cluster_service.specs.Targets.{AnswersSubmit};
 
-use crate::asking::{block, query, submit};
+use crate::asking::{block, query};
 use crate::budgets::ClientBudget;
+use crate::client_access::ClientAccess;
 use crate::seen_states::SeenStates;
 use crate::showing::{app_info, metrics_of, pool_size, progress_of};
 use crate::waiting::{Awaited, wait_for};
@@ -64,19 +64,17 @@ impl<'a, A: Application, R: Wait> LiveTargets<'a, A, R> {
     }
 }
 
-impl<A: Application, R: Wait> LiveTargets<'_, A, R> {
-    /// Submits a transaction to a replica, under its lock.
-    fn submit_at(
-        &self,
-        replica: ReplicaId,
-        tx: &[u8],
-    ) -> Result<Result<u32, SubmitRefusal>, ApplyFault>
-        requires { replica < self.now.cluster.now.replicas }
-        ensures { AnswersSubmit A.meaning tx.now result }
+impl<'a, A: Application, R: Wait> LiveTargets<'a, A, R> {
+    /// What this session submits to.
+    fn access(&self) -> ClientAccess<'a, A, R>
+        ensures { result.cluster ≡ self.now.cluster }
     {
-        let mut entries = self.budgets[usize::from(replica.number())].lock(self.rt);
-        let mut state = self.cluster.replica(replica).lock(self.rt);
-        submit(self.alloc, &mut *state, &mut *entries, tx)
+        ClientAccess {
+            rt: self.rt,
+            alloc: self.alloc,
+            cluster: self.cluster,
+            budgets: self.budgets,
+        }
     }
 }
 
@@ -97,7 +95,7 @@ impl<A: Application, R: Wait> Targets for LiveTargets<'_, A, R> {
         replica: ReplicaId,
         tx: &[u8],
     ) -> Result<Result<u32, SubmitRefusal>, ApplyFault> {
-        self.submit_at(replica, tx)
+        self.access().submit(replica, tx)
     }
 
     fn query(&mut self, replica: ReplicaId, key: &[u8]) -> Result<QueryAnswer, ApplyFault> {
@@ -162,21 +160,13 @@ impl<A: Application, R: Clock + Wait> HttpTargets for LiveTargets<'_, A, R> {
     }
 
     fn spread(&mut self, replica: ReplicaId, tx: &[u8]) {
-        for number in 0..=u8::MAX {
-            if usize::from(number) >= self.cluster.len() {
-                break;
-            }
-            if number != replica.number() {
-                let _ = self.submit_at(ReplicaId::new(number), tx);
-            }
-        }
+        self.access().spread(replica, tx);
     }
 
     fn wait(&mut self, replica: ReplicaId, tx: &[u8], index: u32) -> Option<Delivery> {
         let awaited = Awaited { replica, tx, index };
         wait_for(
-            self.rt,
-            self.cluster,
+            &self.access(),
             &mut self.seat,
             &mut self.seen,
             self.stop,

@@ -71,10 +71,15 @@ struct SteadySchedule {
 }
 
 impl SteadySchedule {
+    ghost use Rattle.std.specs.Prelude.{◌≡◌, ◌<◌, ◌≤◌, ◌+◌, ◌-◌, ◌^◌, max, min, nat_le, if◌then◌else◌};
+    ghost use Rattle.round_pacer.specs.Pacing.{ends_at};
+
     /// The schedule of rounds from the start on.
-    fn new() -> Self {
+    fn new(base_ms: u32) -> Self
+        ensures { result ≡ record { schedule = record { base_ms = base_ms; round = 0; moment_ms = 0 }; last = 0; blocks = 0 } }
+    {
         SteadySchedule {
-            schedule: Schedule::new(),
+            schedule: Schedule::new(base_ms),
             last: 0,
             blocks: 0,
         }
@@ -82,16 +87,30 @@ impl SteadySchedule {
 
     /// Whether the next round of a replica is to end. The schedule begins anew first, if all replicas have committed another block: at the
     /// last round that ended at some replica, so that all go on by the same moments.
-    fn ask(&mut self, now_ms: u64, base_ms: u32, ended: u32, least: u32) -> bool {
+    fn ask(&mut self, now_ms: u64, ended: u32, least: u32) -> bool
+        ensures due { result ≡ nat_le (ends_at self.new.schedule (ended + 1)) now_ms }
+        ensures blocks { self.new.blocks ≡ max self.old.blocks least }
+        ensures stays { least ≤ self.old.blocks → self.new.schedule ≡ self.old.schedule }
+        ensures anew { self.old.blocks < least → max now_ms (ends_at self.old.schedule (max self.old.schedule.round self.old.last)) < 2 ^ 64
+            → self.new.schedule.moment_ms ≡ max now_ms (ends_at self.old.schedule (max self.old.schedule.round self.old.last)) }
+        ensures last { self.new.last ≡ (if result then max self.old.last (min (ended + 1) (2 ^ 32 - 1)) else self.old.last) }
+    {
         if self.blocks < least {
             self.blocks = least;
-            self.schedule.begin_anew(now_ms, base_ms, self.last);
+            self.schedule.begin_anew(now_ms, self.last);
         }
-        let is_due = self.schedule.is_due(now_ms, base_ms, ended);
+        let is_due = self.schedule.is_due(now_ms, ended);
         if is_due {
-            self.last = self.last.max(ended.saturating_add(1));
+            self.end_round(ended);
         }
         is_due
+    }
+
+    /// Notes that the next round of a replica ends. The schedule stays as it is.
+    fn end_round(&mut self, ended: u32)
+        ensures { self.new ≡ record self.old { last = max self.old.last (min (ended + 1) (2 ^ 32 - 1)) } }
+    {
+        self.last = self.last.max(ended.saturating_add(1));
     }
 }
 
@@ -135,27 +154,45 @@ impl<'a, R: Clock + Wait> MachineClock<'a, R> {
             rt,
             start: Instant::now(rt)?,
             pace,
-            steady: Mutex::new(SteadySchedule::new()),
+            steady: Mutex::new(SteadySchedule::new(pace.base_ms)),
         })
     }
 
-    /// The milliseconds since the start. If the machine's clock can't be read any more, it is the greatest number, so
-    /// every round is due.
-    fn now_ms(&self) -> u64 {
+    /// The milliseconds since the start; `None` if the machine's clock can't be read any more.
+    fn elapsed_ms(&self) -> Option<u64> {
         match self.start.elapsed(self.rt) {
-            Ok(elapsed) => u64::try_from(elapsed.as_millis()).unwrap_or(u64::MAX),
-            Err(_) => u64::MAX,
+            Ok(elapsed) => Some(u64::try_from(elapsed.as_millis()).unwrap_or(u64::MAX)),
+            Err(_) => None,
+        }
+    }
+
+    /// The same, or the greatest number, so that every round is due.
+    fn now_ms(&self) -> u64 {
+        self.elapsed_ms().unwrap_or(u64::MAX)
+    }
+
+    /// Whether the next round of a replica is to end, by the steady schedule. If the machine's clock can't be read, every round is due, and the
+    /// schedule doesn't begin anew.
+    fn is_due_steadily(&self, ended: u32, least: u32) -> bool {
+        let now_ms = self.elapsed_ms();
+        let mut steady = self.steady.lock(self.rt);
+        match now_ms {
+            Some(now_ms) => steady.ask(now_ms, ended, least),
+            None => {
+                steady.end_round(ended);
+                true
+            }
         }
     }
 
     /// The milliseconds until the next round end of a replica of which `ended` rounds have ended.
     fn left_ms(&self, ended: u32) -> u64 {
-        let (now_ms, base_ms) = (self.now_ms(), self.pace.base_ms);
+        let now_ms = self.now_ms();
         if self.pace.is_steady {
             let steady = self.steady.lock(self.rt);
-            steady.schedule.until_due(now_ms, base_ms, ended)
+            steady.schedule.until_due(now_ms, ended)
         } else {
-            until_due(0, now_ms, base_ms, ended)
+            until_due(0, now_ms, self.pace.base_ms, ended)
         }
     }
 }
@@ -168,12 +205,10 @@ impl<R: Clock + Wait> RoundClock for MachineClock<'_, R> {
     }
 
     fn is_due(&self, _replica: ReplicaId, ended: u32, progress: Progress) -> bool {
-        let (now_ms, base_ms) = (self.now_ms(), self.pace.base_ms);
         if self.pace.is_steady {
-            let mut steady = self.steady.lock(self.rt);
-            steady.ask(now_ms, base_ms, ended, progress.least)
+            self.is_due_steadily(ended, progress.least)
         } else {
-            due(0, now_ms, base_ms, ended) > 0
+            due(0, self.now_ms(), self.pace.base_ms, ended) > 0
         }
     }
 

@@ -1,5 +1,6 @@
 //! The worker of one replica: what it does in one pass of its loop, and the loop.
-ghost use Rattle.std.specs.Prelude.{◌≡◌, ◌≤◌, false, map, vec_len, IfOk, IfSome};
+ghost use Rattle.replica_turns.specs.OwnEvents.{own_events, without_empty_block};
+ghost use Rattle.std.specs.Prelude.{◌≡◌, ◌≤◌, true, false, map, vec_len, IfOk, IfSome};
 ghost use Rattle.verify_cache.specs.Checks.{is_part_signed};
 
 use crate::gate::TurnGate;
@@ -144,6 +145,27 @@ fn answers_of<R: Threads + Sync>(
     verify_all(rt, alloc, ring, parts, CHECKERS, &NoGate).ok()
 }
 
+/// What a replica does of this by the plan, while these frames wait for it, and the events of that.
+fn planned(
+    plan: WorkPlan,
+    version: Version,
+    alloc: Global,
+    due: &[Bytes],
+    own: OwnEvents,
+) -> Result<(OwnEvents, Vec<Event>), AllocError>
+    ensures all { plan.creates_empty_blocks ≡ true → IfOk result (λ planned. planned.0 ≡ own) }
+    ensures filled { plan.creates_empty_blocks ≡ false → IfOk result (λ planned. planned.0 ≡ without_empty_block version due.now own) }
+    ensures events { IfOk result (λ planned. planned.1.items ≡ own_events planned.0) }
+{
+    let own = if plan.creates_empty_blocks {
+        own
+    } else {
+        own.without_empty_block(version, alloc, due)?
+    };
+    let events = own.events(alloc)?;
+    Ok((own, events))
+}
+
 impl<A: Application> Worker<A> {
     pub(crate) fn new(
         alloc: Global,
@@ -264,17 +286,6 @@ impl<A: Application> Worker<A> {
         self.check_reports(rt, &reports);
     }
 
-    /// What the replica does of this by the worker's plan, while the frames that are due wait for it, and the events of that.
-    fn planned(&self, own: OwnEvents) -> Result<(OwnEvents, Vec<Event>), AllocError> {
-        let own = if self.plan.creates_empty_blocks {
-            own
-        } else {
-            own.without_empty_block(self.version, self.alloc, self.frames.due())?
-        };
-        let events = own.events(self.alloc)?;
-        Ok((own, events))
-    }
-
     /// Takes as many frames from the inbox as there is room for, while the round `clock` is open. Returns how many it took.
     fn take_in<R: Wait>(&mut self, rt: &R, clock: u32) -> usize {
         let room = self.frames.room();
@@ -331,7 +342,8 @@ impl<A: Application> Worker<A> {
     /// Gives the replica a turn with what it does by itself, if that is anything. A refused event and those after it are
     /// dropped: the next pass plans them anew. Returns the number of events that were taken.
     fn act<R: Wait, G: TurnGate>(&mut self, rt: &R, gate: &G, round: u32, own: OwnEvents) -> usize {
-        let Ok((own, events)) = self.planned(own) else {
+        let planned = planned(self.plan, self.version, self.alloc, self.frames.due(), own);
+        let Ok((own, events)) = planned else {
             self.note_fault(Some(ApplyFault::NoMemory));
             return 0;
         };

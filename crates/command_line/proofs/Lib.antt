@@ -7,3 +7,4 @@ pub mod ReceiptLemmas
 pub mod SeedLemmas
 pub mod SourceLemmas
 pub mod Tables
+mod UnfitLemmas

@@ -3,7 +3,7 @@ use Rattle.ledger_model.specs.declared.config.AppKinds.{AppKinds}
 use Rattle.ledger_model.specs.declared.config.AppKinds.TheVariants.{Three, OwnAlone}
 use Rattle.app_states.specs.ProgramWords.{ProgramWords}
 use Rattle.ledger_model.specs.Meanings.{Meanings}
-use Rattle.std.proofs.Common.{◌≡◌, ◌∙◌, ℕ, true, false, List, refl, sym, ap, subst, codes, inl, inr}
+use Rattle.std.proofs.Common.{◌≡◌, ◌∙◌, true, false, List, refl, sym, ap, subst, codes, inl, inr}
 use Rattle.std.specs.Prelude.{◌⊎◌, Option, Some, None, Result, Ok, Err, IfOk, IfErr, OnErr, IsOkAnd, MatchResult, option_map}
 use Rattle.std.specs.Prelude.{◌↔◌, Bool, IsTrue, not, option_and_then, find}
 use Rattle.std.specs.Str.{bytes_eq}

@@ -7,7 +7,7 @@ use Rattle.std.specs.Prelude.{◌⊎◌, Option, Some, None, Ok, if◌then◌els
 use Rattle.std.specs.Str.{bytes_eq}
 use Rattle.std.proofs.lemmas.Slice.Eq.{bytes_eq-Decides}
 use Rattle.hex.specs.Hex.{decode_sized}
-use Rattle.clap.specs.Words.{Row, Text, first_of, subcommand_of, takes}
+use Rattle.clap.specs.Words.{Row, Text, first_of, subcommand_of}
 use Rattle.cluster_setup.specs.declared.cluster_seed.ClusterSeed.{ClusterSeed}
 use Rattle.cluster_setup.specs.declared.known_cluster.KnownCluster.{KnownCluster}
 use Rattle.cluster_setup.specs.declared.known_cluster.KnownCluster.TheVariants.{BySeed, ByKeys}

@@ -1,16 +1,18 @@
 -- The faults of words that give no settings: each names what is wrong with the words.
 use Rattle.app_states.specs.ProgramWords.{ProgramWords}
 use Rattle.ledger_model.specs.Meanings.{Meanings}
-use Rattle.std.specs.Prelude.{◌≡◌, ◌≢◌, ◌⊎◌, ℕ, ◌<◌, ◌+◌, ◌*◌, ⊤, List, [], ◌∷◌, length, codes, slice_get, slice_index, Option, Some, None, Contains}
+use Rattle.std.specs.Prelude.{◌≡◌, ◌≢◌, ◌⊎◌, ℕ, ◌<◌, ◌+◌, ◌*◌, ⊤, List, [], ◌∷◌, length, codes, slice_get, slice_index, true, Option, Some, None, Contains}
 use Rattle.clap.specs.Words.{HasKind, IsAmong, Kinds, Row, Text, fault_of, first_of, subcommand_of}
 use Rattle.clap.specs.declared.error.ErrorKind.TheVariants as kind
 use Rattle.ledger_model.specs.declared.config.AppKind.{AppKind}
 use Rattle.ledger_model.specs.declared.config.AppKinds.{AppKinds}
 use Rattle.ledger_model.specs.declared.config.AppKinds.TheVariants.{Three}
+use Rattle.ledger_model.specs.Numbers.{has_kind}
 use Rattle.ledger_model.specs.Replies.{check_reply}
 use Rattle.log.specs.Level.{parse_filter}
 use Rattle.plain_text.specs.Transactions.{Misspells, StandsFor}
 use Rattle.plain_text.specs.declared.spelling_fault.SpellingFault.{SpellingFault}
+use Rattle.cluster_setup.specs.declared.public_cluster.PublicCluster.{PublicCluster}
 use Rattle.cluster_setup.specs.declared.sign_settings.What.{What}
 use Rattle.cluster_setup.specs.declared.audit_settings.Receipt.{Receipt}
 use Rattle.command_line.specs.Grammar.{abft_app}
@@ -168,6 +170,12 @@ IsRightOf kinds meaning given table rows (fault.Level word) = HasOption kinds ta
 IsRightOf kinds meaning given table rows (fault.Missing option) = HasOption kinds table option.now × (first_of option.now rows ≡ None)
 IsRightOf kinds meaning given table rows fault.NoSubcommand = ⊥
 IsRightOf kinds meaning given table rows fault.NoMemory = ⊤
+
+-- If the fault is that the words name no public file of a cluster, none was given, or one of an application that the program doesn't have. Of
+-- other faults this says nothing.
+abbrev pub IsUnfit : AppKinds → Option PublicCluster → UsageFault → Type 0
+IsUnfit kinds given (fault.ClusterFile file) = (c : PublicCluster) → given ≡ Some c → has_kind kinds c.config.kind ≡ true → ⊥
+IsUnfit kinds given other = ⊤
 
 -- no subcommand of the program was found
 abbrev pub IsNoSubcommand : Option (Text × List Row) → Type 0

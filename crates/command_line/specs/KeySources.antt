@@ -1,8 +1,8 @@
 -- Where the keys of a cluster come from, if the words don't have their seed.
 use Rattle.app_states.specs.ProgramWords.{ProgramWords}
 use Rattle.ledger_model.specs.Meanings.{Meanings}
-use Rattle.std.specs.Prelude.{◌≡◌, ℕ, true, List, [], codes, Option, Some, None}
-use Rattle.clap.specs.Words.{Row, Text, first_of, subcommand_of, takes}
+use Rattle.std.specs.Prelude.{◌≡◌, ℕ, List, [], codes, Option, Some, None}
+use Rattle.clap.specs.Words.{Row, Text, first_of, subcommand_of}
 use Rattle.cluster_setup.specs.declared.settings.Settings.{Settings}
 use Rattle.command_line.specs.Grammar.{abft_app}
 use Rattle.command_line.specs.Options.{AsksForRandom, IsSet}

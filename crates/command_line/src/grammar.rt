@@ -79,7 +79,7 @@ Lines, of replica R at height H; docs/SCENARIOS.md has all of them:
   deliver R ignored N CAUSE    R ignored a frame: the cause's number and name
   execute R H BATCH codes C,D  R ran a block, with a code for each transaction; or 'execute R nothing'
   query R H VALUE              what R holds under the key; or 'query R H absent'
-  retire R H ok                R gave up the heights below H; or 'retire R H refused K'
+  retire R H ok                R retired the heights below H; or 'retire R H refused K'
   info R H HASH                the height and the hash of R's application
   refused K                    the step was refused, for reason K
   lie-lock cannot              too few reports for that lock's proof; or 'lie-stale cannot'

@@ -5,7 +5,7 @@ ghost use Rattle.ledger_model.specs.Meanings.{Meanings};
 ghost use Rattle.ledger_model.specs.Numbers.{has_kind};
 ghost use Rattle.cluster_setup.specs.declared.known_cluster.KnownCluster.{KnownCluster};
 ghost use Rattle.cluster_setup.specs.declared.public_cluster.PublicCluster.{PublicCluster};
-ghost use Rattle.command_line.specs.Faults.{IsRightOf};
+ghost use Rattle.command_line.specs.Faults.{IsRightOf, IsUnfit};
 ghost use Rattle.command_line.specs.Options.{ContainsNoOther, HasCluster, HasOption, IsNamed, OptionTable, SetsKnown, cluster_names};
 ghost use Rattle.command_line.specs.declared.seed_words.SeedWords.TheVariants.{Digits};
 
@@ -46,6 +46,7 @@ fn file_cluster<'a, A: Opening>(
     ensures kind { IfOk result (λ c. has_kind A.words.kinds c.config.kind ≡ true) }
     ensures none { OnErr result (ContainsNoOther (rows_of (found_of matches.now)) → (c : PublicCluster) → given ≡ Some c
         → has_kind A.words.kinds c.config.kind ≡ true → ⊥) }
+    ensures unfit { IfErr result (IsUnfit A.words.kinds given) }
     ensures right { (meaning : Meanings) (seed : Option (List ℕ)) (table : OptionTable) → HasOption A.words.kinds table (codes "cluster")
         → IfErr result (IsRightOf A.words.kinds meaning seed table (rows_of (found_of matches.now))) }
 {
@@ -65,6 +66,7 @@ pub(crate) fn known_cluster<'a, A: Opening>(
 ) -> Result<KnownCluster, UsageFault<'a>>
     ensures some { IfOk result (SetsKnown A.words.kinds given (rows_of (found_of matches.now))) }
     ensures none { OnErr result ((c : KnownCluster) → SetsKnown A.words.kinds given (rows_of (found_of matches.now)) c → ⊥) }
+    ensures unfit { IfErr result (IsUnfit A.words.kinds given.cluster) }
     ensures right { (meaning : Meanings) (table : OptionTable) → HasCluster A.words.kinds Digits table
         → HasOption A.words.kinds table (codes "cluster")
         → IfErr result (IsRightOf A.words.kinds meaning given.seed table (rows_of (found_of matches.now))) }

@@ -3,7 +3,7 @@ ghost use Rattle.std.specs.Prelude.{◌≡◌, ℕ, List, Option, [], map, true,
 ghost use Rattle.clap.specs.Words.{found_of, rows_of, subcommand_of, subcommand_rows_of, takes};
 ghost use Rattle.ledger_model.specs.declared.config.AppKinds.{AppKinds};
 ghost use Rattle.ledger_model.specs.Meanings.{Meanings};
-ghost use Rattle.command_line.specs.Faults.{IsRightFault, IsRightIn, IsRightOf, kinds_of};
+ghost use Rattle.command_line.specs.Faults.{IsRightFault, IsRightIn, IsRightOf, IsUnfit, kinds_of};
 ghost use Rattle.command_line.specs.Grammar.{abft_app};
 ghost use Rattle.command_line.specs.Options.{HasRunning, IsSet, OptionTable, Sets, SetsAudit, SetsDeliver, SetsKeys, SetsRunning, SetsServe, SetsSign, SetsSimulate, WantsMemory, SetsDraw, audit_options, deliver_options, draw_options, keys_options, serve_options, sign_options, simulate_options};
 ghost use Rattle.cluster_setup.specs.declared.cluster_seed.ClusterSeed.{ClusterSeed};
@@ -168,6 +168,7 @@ fn audit_settings<'a, A: Opening>(
     ensures some { IfOk result (λ s. SetsAudit A.words.kinds given (rows_of (found_of matches.now)) s) }
     ensures none { IfErr result (λ e. (s : AuditSettings) → SetsAudit A.words.kinds given (rows_of (found_of matches.now)) s → WantsMemory e) }
     ensures right { (meaning : Meanings) → IfErr result (IsRightOf A.words.kinds meaning given.seed audit_options (rows_of (found_of matches.now))) }
+    ensures unfit { IfErr result (IsUnfit A.words.kinds given.cluster) }
 {
     let cluster = known_cluster::<A>(matches, given)?;
     let receipt = receipt(alloc, matches)?;
@@ -182,6 +183,7 @@ fn draw_settings<'a, A: Opening>(
     ensures some { IfOk result (λ s. SetsDraw A.words.kinds given (rows_of (found_of matches.now)) s) }
     ensures none { IfErr result (λ e. (s : DrawSettings) → SetsDraw A.words.kinds given (rows_of (found_of matches.now)) s → WantsMemory e) }
     ensures right { (meaning : Meanings) → IfErr result (IsRightOf A.words.kinds meaning given.seed draw_options (rows_of (found_of matches.now))) }
+    ensures unfit { IfErr result (IsUnfit A.words.kinds given.cluster) }
 {
     let cluster = known_cluster::<A>(matches, given)?;
     let height = number(matches, "height", 0, 4096)?;
@@ -238,6 +240,7 @@ pub(crate) fn settings_of<'a, A: Opening>(
     ensures set { IfOk result (λ s. Sets A.words.kinds A.meaning given (subcommand_rows_of matches.now) s) }
     ensures refused { IfErr result (λ e. (s : Settings) → Sets A.words.kinds A.meaning given (subcommand_rows_of matches.now) s → WantsMemory e) }
     ensures right { IfErr result (IsRightIn A.words.kinds A.meaning given.seed (subcommand_rows_of matches.now)) }
+    ensures unfit { IfErr result (IsUnfit A.words.kinds given.cluster) }
 {
     let Some((name, options)) = matches.subcommand() else {
         return Err(UsageFault::NoSubcommand);
@@ -271,8 +274,9 @@ pub fn settings<'a, A: Opening>(
     // Words that set something are refused only if memory runs out.
     ensures refused { IfErr result (λ e. takes (abft_app A.words) (map (λ w. w.now) words.entry.now) ≡ true
         → (s : Settings) → IsSet A.words A.meaning given (map (λ w. w.now) words.entry.now) s → WantsMemory e) }
-    // What the fault says about the words is true.
+    // What the fault says about the words is true, and what it says about the cluster that was given.
     ensures right { IfErr result (IsRightFault A.words A.meaning given.seed (map (λ w. w.now) words.entry.now)) }
+    ensures unfit { IfErr result (IsUnfit A.words.kinds given.cluster) }
 {
     let matches = matches_of::<A>(alloc, words)?;
     settings_of::<A>(alloc, &matches, given)

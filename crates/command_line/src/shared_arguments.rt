@@ -72,7 +72,7 @@ pub(crate) const SEED_FILE: Argument = Argument {
 pub(crate) const CLUSTER_FILE: Argument = Argument {
     name: "cluster",
     kind: Kind::Optional,
-    help: "The public file of the cluster, as 'keys' prints it, in place of all options before this one",
+    help: "The public file of the cluster, as 'keys' prints it, in place of --n, --t, --kind, --w, --tree, --frames and the seed",
 };
 
 /// The transaction of a run.
@@ -121,7 +121,7 @@ pub(crate) const STOP_EARLY: Argument = Argument {
 pub(crate) const NO_EMPTY_BLOCKS: Argument = Argument {
     name: "no-empty-blocks",
     kind: Kind::Flag,
-    help: "Opens a height only for a transaction that waits, or once another replica has opened it",
+    help: "Opens a height only if a transaction waits for it, or a frame about it",
 };
 
 /// Whether the rounds of a run are short again after each block.

@@ -274,7 +274,7 @@ impl fmt::Display for UsageFault<'_> {
                 show_option(
                     f,
                     option,
-                    &"is not taken beside --cluster, whose file says it",
+                    &"is not taken beside --cluster, whose file stands for it",
                 )
             }
             UsageFault::ClusterFile(file) => {
@@ -301,7 +301,11 @@ impl fmt::Display for UsageFault<'_> {
                 word,
             } => show_named(f, program, *input, word),
             UsageFault::What(word) => show_wanted(f, "what to sign is 'report' or 'ack'", word),
-            UsageFault::Level(word) => show_wanted(f, "--log is off, warn, info or debug", word),
+            UsageFault::Level(word) => show_wanted(
+                f,
+                "--log is off, error, warn, info, debug or trace",
+                word,
+            ),
             UsageFault::Missing(option) => show_option(f, option, &"is missing"),
             UsageFault::NoSubcommand => f.write_str("error: a subcommand is missing"),
             UsageFault::NoMemory => f.write_str("error: out of memory"),

@@ -1,4 +1,4 @@
-mod FurthestLemmas
+mod ChoosingLemmas
 mod Reading
 mod Replying
 mod Showing

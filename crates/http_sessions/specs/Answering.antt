@@ -28,7 +28,9 @@ use Rattle.http_sessions.specs.declared.targets.Delivery.TheVariants as delivery
 use Rattle.http_sessions.specs.declared.targets.PoolSize.{PoolSize}
 use Rattle.http_sessions.specs.declared.targets.Progress.{Progress}
 use Rattle.http_sessions.specs.Exchanges.{HttpExchange, Asked, Inquired, Shows, Progresses, Pools, Infos, Spreads, Waits}
-use Rattle.http_sessions.specs.Furthest.{IsFurthest, exchanges_of_heights}
+use Rattle.http_sessions.specs.Choosing.{IsChosen, exchanges_of_heights}
+use Rattle.http_sessions.specs.declared.choosing.Choice.{Choice}
+use Rattle.http_sessions.specs.declared.choosing.Choice.TheVariants.{MostCommitted, LeastCommitted}
 
 -- ---- answers by what a replica answered; if it showed nothing, its lock guards another replica's state
 
@@ -211,28 +213,30 @@ pub record AnswersIf (count r : ℕ) (q : QuestionView) (exchanges : List HttpEx
 abbrev pub most_replicas : ℕ
 most_replicas = 256
 
--- each of `count` replicas was asked for its height, and then the question was put to the first of those that have committed most
-pub record AsksFurthest (count : ℕ) (q : QuestionView) (exchanges : List HttpExchange) (a : AnswerView) : Type 0 where
+-- each of `count` replicas was asked for its height, and then the question was put to the first of those that have committed most, or least
+pub record AsksChosen (of : Choice) (count : ℕ) (q : QuestionView) (exchanges : List HttpExchange) (a : AnswerView) : Type 0 where
   pub pairs : List (ℕ × ℕ)
   pub replica : ℕ
   pub height : ℕ
-  pub furthest : IsFurthest count pairs replica height
+  pub chosen : IsChosen of count pairs replica height
   pub rest : List HttpExchange
   pub asked : exchanges ≡ exchanges_of_heights pairs ++ rest
   pub answers : AnswersAt replica q rest a
 
--- a question to the first of those of `count` replicas that have committed most; if there are no replicas, nothing is asked
-pub record AnswersFurthest (count : ℕ) (q : QuestionView) (exchanges : List HttpExchange) (a : AnswerView) : Type 0 where
-  pub some : 0 < count → AsksFurthest (min count most_replicas) q exchanges a
+-- a question to the first of those of `count` replicas that have committed most, or least; if there are no replicas, nothing is asked
+pub record AnswersChosen (of : Choice) (count : ℕ) (q : QuestionView) (exchanges : List HttpExchange) (a : AnswerView) : Type 0 where
+  pub some : 0 < count → AsksChosen of (min count most_replicas) q exchanges a
   pub none : count ≡ 0 → AsksNone (Unanswered service.NoReplica) exchanges a
 
--- A question to the replica that it names. If it names none: about what is committed, to the first of those that have committed most; about
--- metrics, to all; else to replica 0.
+-- A question to the replica that it names. If it names none: about what is committed, to the first of those that have committed most; a
+-- transaction, to the first of those that have committed least; about metrics, to all; else to replica 0.
 abbrev pub AnswersQuestion : ℕ → Option ℕ → QuestionView → List HttpExchange → AnswerView → Type 0
-AnswersQuestion count None question.Status exchanges a = AnswersFurthest count question.Status exchanges a
-AnswersQuestion count None question.AbciInfo exchanges a = AnswersFurthest count question.AbciInfo exchanges a
-AnswersQuestion count None (question.AbciQuery key height) exchanges a = AnswersFurthest count (question.AbciQuery key height) exchanges a
-AnswersQuestion count None (question.Block height) exchanges a = AnswersFurthest count (question.Block height) exchanges a
+AnswersQuestion count None question.Status exchanges a = AnswersChosen MostCommitted count question.Status exchanges a
+AnswersQuestion count None question.AbciInfo exchanges a = AnswersChosen MostCommitted count question.AbciInfo exchanges a
+AnswersQuestion count None (question.AbciQuery key height) exchanges a = AnswersChosen MostCommitted count (question.AbciQuery key height) exchanges a
+AnswersQuestion count None (question.Block height) exchanges a = AnswersChosen MostCommitted count (question.Block height) exchanges a
+AnswersQuestion count None (question.BroadcastSync tx) exchanges a = AnswersChosen LeastCommitted count (question.BroadcastSync tx) exchanges a
+AnswersQuestion count None (question.BroadcastCommit tx) exchanges a = AnswersChosen LeastCommitted count (question.BroadcastCommit tx) exchanges a
 AnswersQuestion count None question.Metrics exchanges a = AnswersAllMetrics (min count most_replicas) exchanges a
 AnswersQuestion count named q exchanges a = AnswersIf count (unwrap_or named 0) q exchanges a
 

@@ -1,5 +1,5 @@
 pub mod Exchanges
-pub mod Furthest
+pub mod Choosing
 pub mod Answering
 pub mod Hearing
 pub mod Serving

@@ -3,13 +3,13 @@ ghost use Rattle.std.specs.Prelude.{◌≡◌, ◌<◌, ◌≤◌, ◌++◌, ◌
 ghost use Rattle.std.specs.List.{FoldsTo, range_with_len};
 ghost use Rattle.http_messages.specs.Questions.{question_view};
 ghost use Rattle.http_sessions.specs.Exchanges.{Makes, Inquired, Shows};
-ghost use Rattle.http_sessions.specs.Answering.{AsksAll, RepliesOrLoses, AnswersRequest, AnswersQuestion, AnswersFurthest, AnswersIf, AnswersAt, AnswersStatus, AnswersInfo, AnswersQueryNow, AnswersQueryAt, AnswersQueryIf, AnswersBlockAt, AnswersLastBlock, AnswersBlockQuestion, AnswersPool, AnswersSync, AnswersCommit, AnswersMetrics, AnswersAllMetrics, most_replicas, exchanges_of_metrics};
+ghost use Rattle.http_sessions.specs.Answering.{AsksAll, RepliesOrLoses, AnswersRequest, AnswersQuestion, AnswersChosen, AnswersIf, AnswersAt, AnswersStatus, AnswersInfo, AnswersQueryNow, AnswersQueryAt, AnswersQueryIf, AnswersBlockAt, AnswersLastBlock, AnswersBlockQuestion, AnswersPool, AnswersSync, AnswersCommit, AnswersMetrics, AnswersAllMetrics, most_replicas, exchanges_of_metrics};
 
 use crate::answers::{
     block_answer, delivery_answer, fault_answer, info_answer, pool_answer, query_answer,
     query_answer_at, reply_to, status_answer, sync_answer,
 };
-use crate::furthest::furthest;
+use crate::choosing::{Choice, chosen};
 use crate::targets::HttpTargets;
 use http_messages::{
     Answer, Commitment, Question, ReplicaMetrics, Request, RequestFault, ServiceFault,
@@ -276,22 +276,27 @@ fn answer_if<T: HttpTargets>(
     }
 }
 
-/// Asks the first of those replicas that have committed most. Each is asked for its height before.
-fn answer_furthest<T: HttpTargets>(alloc: Global, question: &Question, targets: &mut T) -> Reply
+/// Asks the first of those replicas that have committed most, or least. Each is asked for its height before.
+fn answer_by_choice<T: HttpTargets>(
+    alloc: Global,
+    question: &Question,
+    targets: &mut T,
+    choice: Choice,
+) -> Reply
     ensures replies { AsksAll result (Makes T.asks T.inquires) targets.old targets.new
-        (AnswersFurthest (T.replicas targets.old) (question_view question.now)) }
+        (AnswersChosen choice (T.replicas targets.old) (question_view question.now)) }
     ensures count { T.replicas targets.new ≡ T.replicas targets.old }
 {
     let count = targets.count().min(MOST_REPLICAS);
     if count == 0 {
         return reply_to(alloc, &Answer::Unanswered(ServiceFault::NoReplica));
     }
-    let replica = furthest(targets, count);
+    let replica = chosen(targets, count, choice);
     answer_at(alloc, question, targets, replica)
 }
 
-/// Asks the replica that the request names. If it names none, asks the first of those that have committed most, all for metrics, and replica 0
-/// for what isn't committed.
+/// Asks the replica that the request names. If it names none, asks the first of those that have committed most for what is committed, gives a
+/// transaction to the first of those that have committed least, and asks all for metrics, and replica 0 for the rest.
 fn answer_question<T: HttpTargets>(
     alloc: Global,
     question: &Question,
@@ -311,7 +316,10 @@ fn answer_question<T: HttpTargets>(
             | Question::AbciInfo
             | Question::AbciQuery { .. }
             | Question::Block { .. },
-        ) => answer_furthest(alloc, question, targets),
+        ) => answer_by_choice(alloc, question, targets, Choice::MostCommitted),
+        (None, Question::BroadcastSync { .. } | Question::BroadcastCommit { .. }) => {
+            answer_by_choice(alloc, question, targets, Choice::LeastCommitted)
+        }
         (None, question) => answer_if(alloc, question, targets, ReplicaId::new(0)),
     }
 }
@@ -319,7 +327,8 @@ fn answer_question<T: HttpTargets>(
 /// The reply to what was asked, as [`parse`](http_messages::parse) returns it.
 ///
 /// A request asks the replica that it names. If it names none, `Status`, `AbciInfo`, `AbciQuery` and `Block` ask all replicas for their
-/// heights, and then the first of those that have committed most; `Metrics` ask all replicas, and other questions replica 0. If there is no
+/// heights, and then the first of those that have committed most; so do `BroadcastSync` and `BroadcastCommit`, but the first of those that have
+/// committed least, whose pool still has what any other one has; `Metrics` ask all replicas, and other questions replica 0. If there is no
 /// such replica, or what was asked is a fault, no replica is asked. If the state that a replica's lock guards is another replica's, that is
 /// the reply, and no further replica is asked. The only error is allocation failure: then the reply is
 /// [`out_of_memory_reply`](http_messages::out_of_memory_reply), and either nothing was asked, or all that the request asks was done.

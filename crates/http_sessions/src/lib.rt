@@ -7,7 +7,7 @@
 
 mod answering;
 mod answers;
-mod furthest;
+mod choosing;
 mod hearing;
 mod request_end;
 mod serving;

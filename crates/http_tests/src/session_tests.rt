@@ -81,7 +81,7 @@ fn first_wrong<'a>(alloc: Global, targets: &mut Fake, cases: &[Case<'a>]) -> Opt
     None
 }
 
-const QUESTIONS: [Case<'static>; 18] = [
+const QUESTIONS: [Case<'static>; 19] = [
     (b"/health", b"", HEALTH),
     (b"/status?replica=2", b"G2", STATUS),
     (b"/status", b"H0H1H2H3G2", STATUS),
@@ -110,6 +110,11 @@ const QUESTIONS: [Case<'static>; 18] = [
     ),
     (
         b"/broadcast_tx_commit?tx=\"name=satoshi\"",
+        b"H0H1H2H3S1A1W1",
+        TIMED_OUT,
+    ),
+    (
+        b"/broadcast_tx_commit?tx=\"name=satoshi\"&replica=0",
         b"S0A0W0",
         TIMED_OUT,
     ),
@@ -216,8 +221,16 @@ fn first_wrong_refusal(alloc: Global, targets: &mut Fake) -> Option<&'static str
             alloc,
             targets,
             &[
-                (b"/broadcast_tx_sync?tx=\"name=satoshi\"", b"S0", sync),
-                (b"/broadcast_tx_commit?tx=\"name=satoshi\"", b"S0", commit),
+                (
+                    b"/broadcast_tx_sync?tx=\"name=satoshi\"",
+                    b"H0H1H2H3S1",
+                    sync,
+                ),
+                (
+                    b"/broadcast_tx_commit?tx=\"name=satoshi\"",
+                    b"H0H1H2H3S1",
+                    commit,
+                ),
             ],
         ) {
             return Some(wrong);
@@ -250,7 +263,7 @@ fn first_wrong_delivery(alloc: Global, targets: &mut Fake) -> Option<&'static st
         if !is_answer(
             alloc,
             targets,
-            b"/broadcast_tx_commit?tx=\"name=satoshi\"",
+            b"/broadcast_tx_commit?tx=\"name=satoshi\"&replica=0",
             b"S0A0W0",
             text,
         ) {
@@ -285,8 +298,8 @@ fn first_wrong_fault(alloc: Global, targets: &mut Fake) -> Option<&'static str> 
                     text,
                 ),
                 (b"/block?height=1&replica=0", b"B0", text),
-                (b"/broadcast_tx_sync?tx=\"a\"", b"S0", text),
-                (b"/broadcast_tx_commit?tx=\"a\"", b"S0", text),
+                (b"/broadcast_tx_sync?tx=\"a\"", b"H0H1H2H3S1", text),
+                (b"/broadcast_tx_commit?tx=\"a\"", b"H0H1H2H3S1", text),
             ],
         ) {
             return Some(wrong);

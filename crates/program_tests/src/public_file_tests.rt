@@ -78,12 +78,12 @@ fn a_cluster_that_is_given_is_taken_where_it_is_asked_for(rt: HostRuntime) {
         (
             "abft audit --cluster k --tree 5",
             "kvstore",
-            "error: --tree is not taken beside --cluster, whose file says it",
+            "error: --tree is not taken beside --cluster, whose file stands for it",
         ),
         (
             "abft draw --seed-file s --cluster k",
             "kvstore",
-            "error: --seed-file is not taken beside --cluster, whose file says it",
+            "error: --seed-file is not taken beside --cluster, whose file stands for it",
         ),
         ("abft draw", "purse", "4 1 KvStore W4 32 One 0"),
         ("abft keys --n 7", "purse", "7 1 KvStore W4 32 One 0"),

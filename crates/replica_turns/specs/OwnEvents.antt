@@ -20,8 +20,8 @@ use Rattle.replica_turns.specs.declared.own_events.OwnEvents.{OwnEvents}
 abbrev pub is_next_decided : StateView → Bool
 is_next_decided r = is_some (decided_at r.config r.id r.entries (height_in r + 1))
 
--- all replicas committed the height that this one committed last, or as many phases as there are replicas have ended since this one
--- committed it, in this round
+-- all replicas committed the height that this one committed last, or four rounds for each replica have ended since this one committed it, in
+-- this round
 abbrev pub may_open_next : StateView → ℕ → ℕ → Bool
 may_open_next r round least =
     nat_le (height_in r) least || nat_le (rounds_in_phase * r.config.replicas) (clock_at r.entries - round)

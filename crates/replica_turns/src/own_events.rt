@@ -50,8 +50,8 @@ fn raised_floor<A: Application>(state: &State<A>, least: Height) -> Option<Heigh
     }
 }
 
-/// Whether the replica may open the height after the committed one: all replicas committed that, or as many phases have ended as there
-/// are replicas since this replica committed it, in the round `ran_in`. So a silent replica holds up nobody for longer.
+/// Whether the replica may open the height after the committed one: all replicas committed that, or 4N rounds of N replicas have ended since
+/// this replica committed it, in the round `ran_in`. So a silent replica holds up nobody for longer.
 fn may_open_next<A: Application>(state: &State<A>, ran_in: u32, least: Height) -> bool
     ensures { result ≡ may_open_next state.now ran_in least }
 {
@@ -90,7 +90,7 @@ pub fn own_of<A: Application>(
 
 impl OwnEvents {
     /// What a replica that creates no empty blocks does of this, while these frames wait for it: it opens a height with an empty pool
-    /// only if one of them is a frame of this version about that height, since another replica has opened it then. The only error is
+    /// only if one of them is a frame of this version about that height. It doesn't see a frame that was read before. The only error is
     /// allocation failure.
     pub fn without_empty_block(
         self,

@@ -11,5 +11,5 @@ abbrev pub max_due : ℕ
 max_due = 1024
 
 -- the moment of the end of round r by a schedule that began anew at the end of a round; that moment, of each round up to that one
-abbrev pub ends_at : Schedule → ℕ → ℕ → ℕ
-ends_at s base r = due_at s.moment_ms base (r - s.round)
+abbrev pub ends_at : Schedule → ℕ → ℕ
+ends_at s r = due_at s.moment_ms s.base_ms (r - s.round)

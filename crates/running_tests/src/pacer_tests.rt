@@ -70,11 +70,12 @@ const ANEW: [(u32, u64, u64, u32, bool, u64); 8] = [
 #[test]
 fn a_schedule_goes_on_from_where_it_began_anew(rt: HostRuntime) {
     for &(round, moment_ms, now, ended, is_due, left) in &ANEW {
-        let schedule = Schedule { round, moment_ms };
-        let found = (
-            schedule.is_due(now, 10, ended),
-            schedule.until_due(now, 10, ended),
-        );
+        let schedule = Schedule {
+            base_ms: 10,
+            round,
+            moment_ms,
+        };
+        let found = (schedule.is_due(now, ended), schedule.until_due(now, ended));
         assert!(rt; found == (is_due, left), "{round} {now} {ended} {found:?}");
     }
 }
@@ -92,12 +93,14 @@ const BEGINNINGS: [(u64, u32, u32, u64); 4] = [
 
 #[test]
 fn a_schedule_begins_anew_at_a_round_end(rt: HostRuntime) {
-    let mut schedule = Schedule::new();
+    let mut schedule = Schedule::new(10);
     for &(now, at, round, moment_ms) in &BEGINNINGS {
-        schedule.begin_anew(now, 10, at);
-        assert!(rt;
-            schedule == Schedule { round, moment_ms },
-            "{now} {at} {schedule:?}"
-        );
+        schedule.begin_anew(now, at);
+        let expected = Schedule {
+            base_ms: 10,
+            round,
+            moment_ms,
+        };
+        assert!(rt; schedule == expected, "{now} {at} {schedule:?}");
     }
 }

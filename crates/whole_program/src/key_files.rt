@@ -101,16 +101,16 @@ impl From<AllocError> for KeyFault<'_> {
     }
 }
 
-/// That other users may read the file of the seed.
+/// The warning that the file of the seed, with this path, lets other users do something with it.
 #[derive(Drop)]
-struct SharedSeed<'a>(&'a str);
+struct SharedSeedWarning<'a>(&'a str);
 
-impl fmt::Display for SharedSeed<'_> {
+impl fmt::Display for SharedSeedWarning<'_> {
     fn fmt<W: fmt::Write>(&self, f: &mut fmt::Formatter<W>) -> fmt::Result {
         let path = ShownText(self.0);
         write!(
             f,
-            "warning: other users may read the seed in the file {path}"
+            "warning: the mode of the file {path} lets other users read or change the seed"
         )
     }
 }
@@ -130,7 +130,7 @@ fn first_bytes<F: Read + Drop>(alloc: Global, file: F, most: u64) -> io::Result<
     Ok(bytes)
 }
 
-/// The first bytes of the file with this path, enough to see whether they are a seed. Warns if other users may read them.
+/// The first bytes of the file with this path, enough to see whether they are a seed. Warns if its mode lets other users do anything with it.
 fn seed_bytes<R: Files, W: Write>(
     rt: &R,
     alloc: Global,
@@ -139,7 +139,7 @@ fn seed_bytes<R: Files, W: Write>(
 ) -> io::Result<Vec<u8>> {
     let file = fs::open(rt, path)?;
     if is_shared(&file) {
-        let _ = complain(alloc, errors, &SharedSeed(path));
+        let _ = complain(alloc, errors, &SharedSeedWarning(path));
     }
     first_bytes(alloc, file, SEED_LEN)
 }

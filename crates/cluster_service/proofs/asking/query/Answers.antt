@@ -1,4 +1,4 @@
-use Rattle.std.proofs.Common.{refl, rules, arith}
+use Rattle.std.proofs.Common.{refl, rules}
 use Rattle.cluster_service.proofs.Outcomes.{query_outcome}
 use Rattle.cluster_service.proofs.asking.query.Goals as goal
 

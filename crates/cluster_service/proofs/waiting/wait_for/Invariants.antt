@@ -6,5 +6,5 @@ use Rattle.cluster_service.proofs.waiting.wait_for.Given as goal
 abbrev pub invariant-loop-look : goal.invariant-loop-look
 invariant-loop-look g l = record {
   board : l.seat.board ≡ l.initial.seat.board;
-  pending : IsPendingAbove g.A.Application.meaning l.cluster l.awaited.replica l.seen.taker l.awaited.tx.now l.awaited.index l.above;
+  pending : IsPendingAbove g.A.Application.meaning l.access.cluster.now l.awaited.replica l.seen.taker l.awaited.tx.now l.awaited.index l.above;
 }

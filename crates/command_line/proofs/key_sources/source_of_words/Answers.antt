@@ -1,7 +1,6 @@
-use Rattle.std.proofs.Common.{◌≡◌, codes, map, [], subst}
-use Rattle.std.specs.Prelude.{None}
+use Rattle.std.proofs.Common.{◌≡◌, map, [], subst}
 use Rattle.clap.proofs.TakesLemmas.{passed_up}
-use Rattle.clap.specs.Words.{first_of, subcommand_rows_of}
+use Rattle.clap.specs.Words.{subcommand_rows_of}
 use Rattle.cluster_setup.specs.declared.settings.Settings.{Settings}
 use Rattle.command_line.specs.Faults.{kinds_of}
 use Rattle.command_line.specs.Options.{IsSet, WantsMemory}

@@ -9,6 +9,9 @@ use Rattle.command_line.proofs.FaultLemmas.{right_alike}
 use Rattle.command_line.proofs.MatchesLemmas.{found_is, names_one, refused_alike, set_alike, refused_anyway, sets_sign, sets_deliver}
 use Rattle.command_line.proofs.MatchesLemmas.{sets_simulate, sets_cluster, sets_serve, sets_audit, sets_draw, sets_keys}
 use Rattle.command_line.proofs.Tables.{has_running}
+use Rattle.command_line.specs.Faults.{IsUnfit}
+use Rattle.command_line.specs.Options.{deliver_options, keys_options, serve_options, sign_options, simulate_options}
+use Rattle.command_line.proofs.UnfitLemmas.{error_alike, unfit_result}
 use Rattle.command_line.proofs.settings_of_words.settings_of.Goals as goal
 
 pub returns-in-sign-clause-set : goal.returns-in-sign-clause-set
@@ -266,3 +269,55 @@ returns-in_default-name-clause-right g c =
         ),
       ),
     )
+
+pub returns-in-sign-clause-unfit : goal.returns-in-sign-clause-unfit
+returns-in-sign-clause-unfit g c =
+    error_alike (IsUnfit (g.A.Opening.words.kinds) c.args.given.cluster) _ c.sign_settings.result c.map.result
+    (unfit_result (g.A.Opening.words.kinds) (g.A.Application.meaning) c.args.given.seed c.args.given.cluster sign_options _ c.sign_settings.result (λ bad. absurd cc)
+    (c.sign_settings.ensures.right (g.A.Application.meaning)))
+    c.map.ensures.cases
+
+pub returns-in-deliver-clause-unfit : goal.returns-in-deliver-clause-unfit
+returns-in-deliver-clause-unfit g c =
+    error_alike (IsUnfit (g.A.Opening.words.kinds) c.args.given.cluster) _ c.deliver_settings.result c.map-in-deliver.result
+    (unfit_result (g.A.Opening.words.kinds) (g.A.Application.meaning) c.args.given.seed c.args.given.cluster deliver_options _ c.deliver_settings.result (λ bad. absurd cc)
+    c.deliver_settings.ensures.right)
+    c.map-in-deliver.ensures.cases
+
+pub returns-in-simulate-clause-unfit : goal.returns-in-simulate-clause-unfit
+returns-in-simulate-clause-unfit g c =
+    error_alike (IsUnfit (g.A.Opening.words.kinds) c.args.given.cluster) _ c.simulate_settings.result c.map-in-simulate.result
+    (unfit_result (g.A.Opening.words.kinds) (g.A.Application.meaning) c.args.given.seed c.args.given.cluster simulate_options _ c.simulate_settings.result (λ bad. absurd cc)
+    (c.simulate_settings.ensures.right (g.A.Opening.words.kinds) (g.A.Application.meaning)))
+    c.map-in-simulate.ensures.cases
+
+pub returns-in-cluster-clause-unfit : goal.returns-in-cluster-clause-unfit
+returns-in-cluster-clause-unfit g c =
+    error_alike (IsUnfit (g.A.Opening.words.kinds) c.args.given.cluster) _ c.cluster_settings.result c.map-in-cluster.result
+    (unfit_result (g.A.Opening.words.kinds) (g.A.Application.meaning) c.args.given.seed c.args.given.cluster running_options _ c.cluster_settings.result (λ bad. absurd cc)
+    (c.cluster_settings.ensures.right running_options (has_running _ _ _ _)))
+    c.map-in-cluster.ensures.cases
+
+pub returns-in-serve-clause-unfit : goal.returns-in-serve-clause-unfit
+returns-in-serve-clause-unfit g c =
+    error_alike (IsUnfit (g.A.Opening.words.kinds) c.args.given.cluster) _ c.serve_settings.result c.map-in-serve.result
+    (unfit_result (g.A.Opening.words.kinds) (g.A.Application.meaning) c.args.given.seed c.args.given.cluster serve_options _ c.serve_settings.result (λ bad. absurd cc)
+    c.serve_settings.ensures.right)
+    c.map-in-serve.ensures.cases
+
+pub returns-in-keys-clause-unfit : goal.returns-in-keys-clause-unfit
+returns-in-keys-clause-unfit g c =
+    error_alike (IsUnfit (g.A.Opening.words.kinds) c.args.given.cluster) _ c.keys_settings.result c.map-in-keys.result
+    (unfit_result (g.A.Opening.words.kinds) (g.A.Application.meaning) c.args.given.seed c.args.given.cluster keys_options _ c.keys_settings.result (λ bad. absurd cc)
+    (c.keys_settings.ensures.right (g.A.Application.meaning)))
+    c.map-in-keys.ensures.cases
+
+pub returns-in-audit-clause-unfit : goal.returns-in-audit-clause-unfit
+returns-in-audit-clause-unfit g c =
+    error_alike (IsUnfit (g.A.Opening.words.kinds) c.args.given.cluster) _ c.audit_settings.result c.map-in-audit.result c.audit_settings.ensures.unfit
+    c.map-in-audit.ensures.cases
+
+pub returns-in-draw-clause-unfit : goal.returns-in-draw-clause-unfit
+returns-in-draw-clause-unfit g c =
+    error_alike (IsUnfit (g.A.Opening.words.kinds) c.args.given.cluster) _ c.draw_settings.result c.map-in-draw.result c.draw_settings.ensures.unfit
+    c.map-in-draw.ensures.cases

@@ -1,5 +1,5 @@
 use Rattle.std.proofs.Crossing.{crosses}
-use denote.Param.Send.{IsSend, IsSync, sendable}
+use denote.Param.Send.{IsSync, sendable}
 use Rattle.cluster_service.proofs.Crossing.{server_send}
 use Rattle.cluster_service.proofs.serving.fn.run_beside.scope.Goals as goal
 

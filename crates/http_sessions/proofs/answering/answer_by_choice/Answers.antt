@@ -1,7 +1,7 @@
 use Rattle.std.proofs.Common.{◌≡◌, ◌∙◌, ap, arith, min, refl, subst, ℕ, []}
-use Rattle.http_sessions.specs.Furthest.{IsFurthest, exchanges_of_heights}
+use Rattle.http_sessions.specs.Choosing.{IsChosen, exchanges_of_heights}
 use Rattle.http_sessions.proofs.Replying.{replied, replied_after}
-use Rattle.http_sessions.proofs.answering.answer_furthest.Goals as goal
+use Rattle.http_sessions.proofs.answering.answer_by_choice.Goals as goal
 
 pub returns-then-count-eq0-clause-replies : goal.returns-then-count-eq0-clause-replies
 returns-then-count-eq0-clause-replies g c = replied _ _ _ _ _ _ [] _ refl (record {
@@ -11,15 +11,15 @@ returns-then-count-eq0-clause-replies g c = replied _ _ _ _ _ _ [] _ refl (recor
 
 pub returns-clause-replies : goal.returns-clause-replies
 returns-clause-replies g c =
-    let found = c.furthest-replica.ensures.found in
+    let found = c.chosen-replica.ensures.found in
     let same : c.min-count.result ≡ min (g.T.Targets.replicas c.args.targets.now) 256 = c.min-count.ensures ∙ ap (λ n. min n 256) c.count.ensures in
-    replied_after _ _ _ _ _ c.furthest-replica.new.targets (exchanges_of_heights found.pairs) _ _ found.made
+    replied_after _ _ _ _ _ c.chosen-replica.new.targets (exchanges_of_heights found.pairs) _ _ found.made
     (λ rest answer answers. record {
       some = λ _. record {
         pairs = found.pairs;
-        replica = c.furthest-replica.result;
+        replica = c.chosen-replica.result;
         height = found.height;
-        furthest = subst (λ (n : ℕ). IsFurthest n found.pairs c.furthest-replica.result found.height) same found.furthest;
+        chosen = subst (λ (n : ℕ). IsChosen c.args.choice n found.pairs c.chosen-replica.result found.height) same found.chosen;
         rest = rest;
         asked = refl;
         answers = answers;
