@@ -15,9 +15,9 @@ document=$1
 build abft --help
 seconds=120
 
-mkdir -p "$room/work/crates/abft/out"
-ln -s "$(realpath "$built")" "$room/work/crates/abft/out/abft"
-ln -s "$PWD/docs" "$PWD/examples" "$PWD/tests" "$room/work/"
+mkdir -p "$room/clone/crates/abft/out"
+ln -s "$(realpath "$built")" "$room/clone/crates/abft/out/abft"
+ln -s "$PWD/docs" "$PWD/examples" "$PWD/tests" "$room/clone/"
 
 # shape: standard input, with a letter for each number that depends on the moment, and one line for all blocks
 shape() {
@@ -67,7 +67,7 @@ done
 
 # The shell has a group of its own, so that nothing which it started outlives the script.
 mkfifo "$room/typed"
-(cd "$room/work" && exec setsid bash <"$room/typed" >"$room/said" 2>&1) &
+(cd "$room/clone" && exec setsid bash <"$room/typed" >"$room/said" 2>&1) &
 shell=$!
 exec 8>"$room/typed"
 trap 'exec 8>&-; kill -- "-$shell" 2>/dev/null; wait "$shell" 2>/dev/null; rm -rf "$room"' EXIT

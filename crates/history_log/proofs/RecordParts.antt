@@ -79,7 +79,7 @@ below_256 bytes fits i =
       | inr le ↦ rw (get_or_past (take 4 bytes) i 0 (omega (arith, length-take 4 bytes))) (omega arith)
     ]
 
--- bytes that announce a length, and have the tag of so many bytes after them, begin with a record
+-- bytes that announce a length n, and have the tag of the n bytes after it following them, begin with a record
 pub begins_of : (tag bytes content rest : List ℕ) → ((i : ℕ) → get_or bytes i 0 < 256) → length bytes ≡ 4 + length content + 16 + length rest
     → announced_len bytes ≡ length content → length content ≤ max_content_len → drop 4 bytes ≡ content ++ (tag_after tag content ++ rest)
     → BeginsWithRecord tag bytes content rest

@@ -1,27 +1,27 @@
 //! Logs that were cut or changed at each byte, and where a walk over them ends. Python computed the same endings.
 use crate::vectors::RECORDS;
-use crate::walks::{Ending, walk};
+use crate::walks::{LogEnd, walk};
 use std::alloc::{AllocError, Global};
 
 /// Where a walk ends if the log is cut at a place: the first place, the place after the last, the number of records,
 /// and what follows them.
-const CUTS: [(usize, usize, usize, Ending); 7] = [
-    (0, 1, 0, Ending::End),
-    (1, 24, 0, Ending::Torn),
-    (24, 25, 1, Ending::End),
-    (25, 44, 1, Ending::Torn),
-    (44, 45, 2, Ending::End),
-    (45, 73, 2, Ending::Torn),
-    (73, 74, 3, Ending::End),
+const CUTS: [(usize, usize, usize, LogEnd); 7] = [
+    (0, 1, 0, LogEnd::End),
+    (1, 24, 0, LogEnd::Torn),
+    (24, 25, 1, LogEnd::End),
+    (25, 44, 1, LogEnd::Torn),
+    (44, 45, 2, LogEnd::End),
+    (45, 73, 2, LogEnd::Torn),
+    (73, 74, 3, LogEnd::End),
 ];
 
 /// The same, if the byte at a place is changed. A change of the last record looks like a torn write, but not a change
 /// of its length.
-const CHANGES: [(usize, usize, usize, Ending); 4] = [
-    (0, 24, 0, Ending::Damaged),
-    (24, 44, 1, Ending::Damaged),
-    (44, 48, 2, Ending::Damaged),
-    (48, 73, 2, Ending::Torn),
+const CHANGES: [(usize, usize, usize, LogEnd); 4] = [
+    (0, 24, 0, LogEnd::Damaged),
+    (24, 44, 1, LogEnd::Damaged),
+    (44, 48, 2, LogEnd::Damaged),
+    (48, 73, 2, LogEnd::Torn),
 ];
 
 // The first bytes of the log.
@@ -78,16 +78,16 @@ fn changed_anywhere(rt: HostRuntime) {
     }
 }
 
-/// What follows so many bytes of the log, and where a walk over both ends.
-const ENDS: [(usize, &[u8], usize, Ending); 9] = [
+/// A number of bytes of the log, what follows them, and where a walk over both ends.
+const ENDS: [(usize, &[u8], usize, LogEnd); 9] = [
     // Zeros, of a file that grew before its bytes came.
-    (73, &[0; 40], 3, Ending::Torn),
-    (60, &[0; 13], 2, Ending::Torn),
+    (73, &[0; 40], 3, LogEnd::Torn),
+    (60, &[0; 13], 2, LogEnd::Torn),
     // More zeros than the cut record lacks.
-    (60, &[0; 14], 2, Ending::Damaged),
+    (60, &[0; 14], 2, LogEnd::Damaged),
     // Three bytes of a length, also of one that no content has.
-    (73, &[0, 0, 1], 3, Ending::Torn),
-    (73, &[0xff; 3], 3, Ending::Torn),
+    (73, &[0, 0, 1], 3, LogEnd::Torn),
+    (73, &[0xff; 3], 3, LogEnd::Torn),
     // The length of the longest content, and lengths that no content has.
     (
         73,
@@ -95,7 +95,7 @@ const ENDS: [(usize, &[u8], usize, Ending); 9] = [
             1, 0, 0, 0, 9, 9, 9, 9, 9, 9, 9, 9, 9, 9, 9, 9, 9, 9, 9, 9, 9, 9, 9,
         ],
         3,
-        Ending::Torn,
+        LogEnd::Torn,
     ),
     (
         73,
@@ -103,9 +103,9 @@ const ENDS: [(usize, &[u8], usize, Ending); 9] = [
             1, 0, 0, 1, 9, 9, 9, 9, 9, 9, 9, 9, 9, 9, 9, 9, 9, 9, 9, 9, 9, 9, 9,
         ],
         3,
-        Ending::Damaged,
+        LogEnd::Damaged,
     ),
-    (73, &[0xff; 4], 3, Ending::Damaged),
+    (73, &[0xff; 4], 3, LogEnd::Damaged),
     // A record of no content with another tag, and a byte after it.
     (
         73,
@@ -113,12 +113,12 @@ const ENDS: [(usize, &[u8], usize, Ending); 9] = [
             0, 0, 0, 0, 9, 9, 9, 9, 9, 9, 9, 9, 9, 9, 9, 9, 9, 9, 9, 9, 9,
         ],
         3,
-        Ending::Damaged,
+        LogEnd::Damaged,
     ),
 ];
 
 // Where a walk over the first bytes of the log and these bytes ends.
-fn walk_on(alloc: Global, place: usize, more: &[u8]) -> Result<(usize, Ending), AllocError> {
+fn walk_on(alloc: Global, place: usize, more: &[u8]) -> Result<(usize, LogEnd), AllocError> {
     let mut bytes = Vec::from_slice(alloc, cut(place))?;
     bytes.extend_from_slice(more)?;
     Ok(walk(&bytes))
@@ -136,14 +136,14 @@ fn bytes_after_records(rt: HostRuntime) {
 
 /// What the first record's length is overwritten with, the bits of its content's first byte that are changed, and what
 /// the log then begins with. The two records after it are good.
-const LENGTHS: [([u8; 4], u8, Ending); 5] = [
+const LENGTHS: [([u8; 4], u8, LogEnd); 5] = [
     // Lengths that no content has.
-    ([0xff; 4], 0x01, Ending::Damaged),
-    ([1, 0, 0, 1], 0x00, Ending::Damaged),
-    ([1, 0, 0, 1], 0x01, Ending::Damaged),
+    ([0xff; 4], 0x01, LogEnd::Damaged),
+    ([1, 0, 0, 1], 0x00, LogEnd::Damaged),
+    ([1, 0, 0, 1], 0x01, LogEnd::Damaged),
     // The length of the longest content. With a changed content, the bytes look like a longer record that was cut off.
-    ([1, 0, 0, 0], 0x00, Ending::Damaged),
-    ([1, 0, 0, 0], 0x01, Ending::Torn),
+    ([1, 0, 0, 0], 0x00, LogEnd::Damaged),
+    ([1, 0, 0, 0], 0x01, LogEnd::Torn),
 ];
 
 // The log with another length of its first record, and other bits of that record's content.

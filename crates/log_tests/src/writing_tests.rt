@@ -1,6 +1,6 @@
 //! What is written, compared with bytes that were computed outside.
 use crate::vectors::{CONTENTS, FIRST_TAG, HEADER, LAST_TAG, RECORDS};
-use crate::walks::{Ending, walk, walk_after};
+use crate::walks::{LogEnd, walk, walk_after};
 use history_log::{MAX_CONTENT_LEN, RecordFault, Tag, put_record};
 use std::alloc::{AllocError, Global};
 
@@ -23,11 +23,11 @@ fn writes_three_records(rt: HostRuntime) {
 
 #[test]
 fn reads_three_records(rt: HostRuntime) {
-    assert!(rt; walk(&RECORDS) == (3, Ending::End));
-    assert!(rt; walk_after(b"another log\n", &RECORDS) == (0, Ending::Damaged));
+    assert!(rt; walk(&RECORDS) == (3, LogEnd::End));
+    assert!(rt; walk_after(b"another log\n", &RECORDS) == (0, LogEnd::Damaged));
 }
 
-// Appends a content of so many zero bytes to one byte: the result, and how many bytes there are then.
+// Appends a content of `len` zero bytes to one byte. Returns the result, and the number of bytes then.
 fn put_zeros(alloc: Global, len: usize) -> Result<(bool, usize), AllocError> {
     let zeros = vec![in alloc; 0u8; len]?;
     let mut out = vec![in alloc; 7u8]?;

@@ -89,7 +89,7 @@ module _ (config : Config) (ring : Ring) (correct : List ℕ) where
   accepts_grown f g (event.Deliver bytes) (reply.Delivered (Ok u)) grow accepts = λ s spelled. unforged_grown f g s grow (accepts s spelled)
   accepts_grown f g e r grow accepts = tt
 
-  -- each of these was accepted as logs had it that have so many entries, after the ones before it
+  -- each of these was accepted as logs with these numbers of entries had it, after the ones before it
   unfoldable WereLogged : (ℕ → ℕ) → List Added → List Added → Type 0
   WereLogged logged front [] = Unit {0}
   WereLogged logged front (a ∷ more) =
